@@ -1,0 +1,9 @@
+pub mod Bytes
+pub mod Refusals
+pub mod Numbers
+pub mod Pdus
+pub mod Reading
+pub mod Writing
+pub mod Drafts
+pub mod Laws
+pub mod Examples
