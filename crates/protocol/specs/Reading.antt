@@ -78,27 +78,36 @@ entry-of bytes =
     ; missing = cond (bit 2 (byte bytes 1)) (span (word bytes 2) (word bytes 4)) every
     }
 
--- Goes along the entries, whose places count from the start of the PDU: `entry` at each, then `cut` where an entry
--- is not whole, or `end` after the last. Both get what is left of the bytes. The fuel is as good as any other that
--- is at least the number of bytes left.
-abbrev pub walk : {A : Type 0} (entry : ℕ → Bytes → A → A) (cut end : ℕ → Bytes → A) (fuel : ℕ) → Bool → ℕ → Bytes → A
-walk entry cut end fuel false place bytes = end place bytes
-walk entry cut end zero true place bytes = cut place bytes
-walk entry cut end (suc fuel) true place bytes =
-    cond (ltb (length bytes) (entry-length bytes)) (cut place bytes)
-    (entry place bytes (walk entry cut end fuel (e1-of bytes) (place + entry-length bytes) (drop (entry-length bytes) bytes)))
+-- What a walk along the entries makes of each, given what it made of those that follow, of one that is not whole,
+-- and of the bytes after the last one. Places count from the start of the PDU.
+pub record Visit (A : Type 0) : Type 0 where
+  pub entry : ℕ → Bytes → A → A
+  pub cut : ℕ → Bytes → A
+  pub end : ℕ → Bytes → A
 
-abbrev pub along : {A : Type 0} (entry : ℕ → Bytes → A → A) (cut end : ℕ → Bytes → A) → Bool → ℕ → Bytes → A
-along entry cut end e1 place bytes = walk entry cut end (length bytes) e1 place bytes
+-- E1 says whether an entry begins here. Fuel that is not less than the bytes left does not run out.
+abbrev pub walk : {A : Type 0} → Visit A → (fuel : ℕ) → (e1 : Bool) → ℕ → Bytes → A
+walk visit fuel false place bytes = visit .end place bytes
+walk visit zero true place bytes = visit .cut place bytes
+walk visit (suc fuel) true place bytes =
+    cond (ltb (length bytes) (entry-length bytes)) (visit .cut place bytes)
+    (visit .entry place bytes (walk visit fuel (e1-of bytes) (place + entry-length bytes) (drop (entry-length bytes) bytes)))
 
-abbrev pub entries : Bool → ℕ → Bytes → List Entry
-entries e1 place bytes = along (λ place bytes es. entry-of bytes ∷ es) (λ place bytes. []) (λ place bytes. []) e1 place bytes
+abbrev pub along : {A : Type 0} → Visit A → Bool → ℕ → Bytes → A
+along visit e1 place bytes = walk visit (length bytes) e1 place bytes
+
+abbrev pub listing : Visit (List Entry)
+listing =
+    record { entry = λ place bytes es. entry-of bytes ∷ es; cut = λ place bytes. []; end = λ place bytes. [] }
 
 -- the entries end where the PDU does
-abbrev pub structure-fault : Bool → ℕ → Bytes → Option Fault
-structure-fault e1 place bytes =
-    along (λ place bytes rest. rest) (λ place bytes. Some (at Malformed (place + length bytes)))
-    (λ place bytes. cond (eqb (length bytes) 0) None (Some (at Malformed place))) e1 place bytes
+abbrev pub whole-entries : Visit (Option Fault)
+whole-entries =
+    record
+    { entry = λ place bytes rest. rest
+    ; cut = λ place bytes. Some (at Malformed (place + length bytes))
+    ; end = λ place bytes. cond (eqb (length bytes) 0) None (Some (at Malformed place))
+    }
 
 abbrev pub in-order : Missing → Bool
 in-order every = true
@@ -109,11 +118,14 @@ abbrev pub valid : ℕ → Entry → Bool
 valid ack-sn e =
     (leb 1 (ahead sn-modulus (e .nack-sn) ack-sn) && leb (ahead sn-modulus (e .nack-sn) ack-sn) 2048) && in-order (e .missing)
 
--- the first entry that is invalid, or has E3
-abbrev pub entry-fault : ℕ → Bool → ℕ → Bytes → Option Fault
-entry-fault ack-sn e1 place bytes =
-    along (λ place bytes rest. cond (not (e3-of bytes) && valid ack-sn (entry-of bytes)) rest (Some (at InvalidEntry place)))
-    (λ place bytes. None) (λ place bytes. None) e1 place bytes
+-- the first entry that has E3 or is invalid
+abbrev pub valid-entries : ℕ → Visit (Option Fault)
+valid-entries ack-sn =
+    record
+    { entry = λ place bytes rest. cond (not (e3-of bytes) && valid ack-sn (entry-of bytes)) rest (Some (at InvalidEntry place))
+    ; cut = λ place bytes. None
+    ; end = λ place bytes. None
+    }
 
 abbrev pub e1-field : Bytes → Bool
 e1-field bytes = bit 7 (byte bytes 2)
@@ -121,9 +133,9 @@ e1-field bytes = bit 7 (byte bytes 2)
 abbrev pub read-status : Bytes → Result Pdu Fault
 read-status bytes =
     cond (ltb (length bytes) 3) (Err (at Malformed (length bytes)))
-    (unless (structure-fault (e1-field bytes) 3 (drop 3 bytes))
-    (unless (entry-fault (sn-field bytes) (e1-field bytes) 3 (drop 3 bytes))
-    (Ok (status (sn-field bytes) (entries (e1-field bytes) 3 (drop 3 bytes))))))
+    (unless (along whole-entries (e1-field bytes) 3 (drop 3 bytes))
+    (unless (along (valid-entries (sn-field bytes)) (e1-field bytes) 3 (drop 3 bytes))
+    (Ok (status (sn-field bytes) (along listing (e1-field bytes) 3 (drop 3 bytes))))))
 
 -- either, at the end that reads it ---------------------------------------------------------------------------------
 
@@ -152,10 +164,13 @@ decode-pdcp sdu =
 abbrev pub cleared-entry : Bytes → Bytes
 cleared-entry bytes = byte bytes 0 ∷ (2 * (byte bytes 1 / 2)) ∷ take (entry-length bytes - 2) (drop 2 bytes)
 
+abbrev pub clearing : Visit Bytes
+clearing =
+    record { entry = λ place bytes rest. cleared-entry bytes ++ rest; cut = λ place bytes. bytes; end = λ place bytes. bytes }
+
 -- what an end reads, with each reserved bit 0
 abbrev pub cleared : End → Bytes → Bytes
 cleared Far bytes = bytes
 cleared Near bytes =
     cond (ltb (length bytes) 3) bytes
-    (byte bytes 0 ∷ byte bytes 1 ∷ (128 * flag (e1-field bytes))
-    ∷ along (λ place bytes rest. cleared-entry bytes ++ rest) (λ place bytes. bytes) (λ place bytes. bytes) (e1-field bytes) 3 (drop 3 bytes))
+    (byte bytes 0 ∷ byte bytes 1 ∷ (128 * flag (e1-field bytes)) ∷ along clearing (e1-field bytes) 3 (drop 3 bytes))
