@@ -34,10 +34,10 @@ count-congruent m base sn h =
         omega (arith, div-add-mod' base m, mod-lt base {m = m} (omega arith), mul-comm m (base / m + 1), add-mul (base / m) 1 m)
 
 pub one-count : One-count
-one-count m base sn c h =
-    ( λ e. (ap (λ x. x % m) e ∙ count-congruent m base sn h, omega (arith, e), omega (arith, e, in-window))
-    , λ p. same-count m c (count-from m base sn) (p .0 ∙ sym (count-congruent m base sn h)) (omega (arith, p .1, p .2)) (omega (arith, p .1, in-window))
-    )
+one-count m base sn c h = (
+  λ e. (ap (λ x. x % m) e ∙ count-congruent m base sn h, omega (arith, e), omega (arith, e, in-window)),
+  λ p. same-count m c (count-from m base sn) (p .0 ∙ sym (count-congruent m base sn h)) (omega (arith, p .1, p .2)) (omega (arith, p .1, in-window)),
+)
   where
     in-window : (sn + m - base % m) % m < m
     in-window = mod-lt (sn + m - base % m) {m = m} (omega arith)
@@ -55,8 +55,8 @@ Right half rx-deliv sn None = (c : ℕ) → Names half rx-deliv sn c → ⊥
 right-by : (half rx-deliv sn q r : ℕ) → sn < half + half → q * (half + half) + r ≡ rx-deliv → r < half + half
     → (below near none : Bool) → ltb (sn + half) r ≡ below → ltb sn (r + half) ≡ near → eqb q 0 ≡ none
     → Right half rx-deliv sn
-      (cond below (Some ((q + 1) * (half + half) + sn))
-      (cond near (Some (q * (half + half) + sn)) (cond none None (Some ((q - 1) * (half + half) + sn)))))
+    (cond below (Some ((q + 1) * (half + half) + sn))
+    (cond near (Some (q * (half + half) + sn)) (cond none None (Some ((q - 1) * (half + half) + sn)))))
 right-by half rx-deliv sn q r h e rm true near none t u v =
     let lt = ltb-true (sn + half) r t in
     let up = add-mul q 1 (half + half) in
@@ -86,10 +86,10 @@ names-once half rx-deliv sn c d p q =
     same-count (half + half) c d (p .0 ∙ sym (q .0)) (omega (arith, p .2, q .1)) (omega (arith, p .1, q .2))
 
 pub one-pdcp-count : One-pdcp-count
-one-pdcp-count half rx-deliv sn c h =
-    ( λ e. subst (Right half rx-deliv sn) e (pdcp-count-right half rx-deliv sn h)
-    , found (pdcp-count (half + half) half rx-deliv sn) (pdcp-count-right half rx-deliv sn h)
-    )
+one-pdcp-count half rx-deliv sn c h = (
+  λ e. subst (Right half rx-deliv sn) e (pdcp-count-right half rx-deliv sn h),
+  found (pdcp-count (half + half) half rx-deliv sn) (pdcp-count-right half rx-deliv sn h),
+)
   where
     found : (o : Option ℕ) → Right half rx-deliv sn o → Names half rx-deliv sn c → o ≡ Some c
     found (Some d) right p = ap {B = Option ℕ} Some (names-once half rx-deliv sn d c right p)

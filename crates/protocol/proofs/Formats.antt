@@ -27,7 +27,7 @@ use Rattle.std.specs.declared.result.Result.the-variants.{Ok, Err}
 -- By cases of the bits, the rest is arithmetic.
 amd-reads-back : (poll : Bool) (sn : ℕ) (segment : Segment) (payload : Bytes) → sn < 4096 → Segment-fits segment
     → let a : Amd = record { poll = poll; sn = sn; segment = segment; payload = payload } in
-      decode Far (encode-amd a) ≡ unless (amd-fault a) (Ok (amd a))
+    decode Far (encode-amd a) ≡ unless (amd-fault a) (Ok (amd a))
 amd-reads-back true sn whole payload h fits = grind (arith, tells)
 amd-reads-back false sn whole payload h fits = grind (arith, tells)
 amd-reads-back true sn first payload h fits = grind (arith, tells)
@@ -47,11 +47,11 @@ amd-writes-back : (bytes : Bytes) → Octets bytes → header-length (si-field b
 amd-writes-back [] o h k = absurd (omega arith)
 amd-writes-back (b ∷ []) o h k = grind (arith, tells)
 amd-writes-back (b ∷ c ∷ []) o h k = grind (arith, tells)
-amd-writes-back (b ∷ c ∷ d ∷ []) o h k = 
+amd-writes-back (b ∷ c ∷ d ∷ []) o h k =
     let ob : b < 256 = o 0 in
     let oc : c < 256 = o 1 in
     grind (arith, tells)
-amd-writes-back (b ∷ c ∷ d ∷ e ∷ payload) o h k = 
+amd-writes-back (b ∷ c ∷ d ∷ e ∷ payload) o h k =
     let ob : b < 256 = o 0 in
     let oc : c < 256 = o 1 in
     let od : d < 256 = o 2 in
@@ -158,7 +158,7 @@ status-not-read (b ∷ c ∷ d ∷ rest) =
         status-read b c (128 * flag (bit 7 d)) (along clearing (bit 7 d) 3 rest) h
         ∙ ap (λ f. status-answer (256 * b + c) f (along clearing (bit 7 d) 3 rest)) (bit-of-flag (bit 7 d))
         ∙ answered (along-cleared whole-entries blind-whole (bit 7 d) 3 rest) (along-cleared (valid-entries (256 * b + c)) (blind-valid (256 * b + c)) (bit 7 d) 3 rest)
-          (ap (status (256 * b + c)) (along-cleared listing blind-listing (bit 7 d) 3 rest))
+        (ap (status (256 * b + c)) (along-cleared listing blind-listing (bit 7 d) 3 rest))
         ∙ sym (status-read b c d rest h)
 
     other : (e : ℕ) (bytes : Bytes) → 16 ≤ b → decode Near (b ∷ c ∷ e ∷ bytes) ≡ Err (at WrongKind 0)

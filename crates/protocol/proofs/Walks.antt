@@ -64,8 +64,8 @@ module _ {A : Type 0} (visit : Visit A) where
   -- one step of the walk
   pub along-step : (place : ℕ) (bytes : Bytes)
       → along visit true place bytes
-        ≡ cond (ltb (length bytes) (entry-length bytes)) (visit .cut place bytes)
-          (visit .entry place bytes (along visit (e1-of bytes) (place + entry-length bytes) (drop (entry-length bytes) bytes)))
+      ≡ cond (ltb (length bytes) (entry-length bytes)) (visit .cut place bytes)
+      (visit .entry place bytes (along visit (e1-of bytes) (place + entry-length bytes) (drop (entry-length bytes) bytes)))
   along-step place [] = refl
   along-step place (b ∷ bs) =
       ap (λ rest. cond (ltb (length (b ∷ bs)) (entry-length (b ∷ bs))) (visit .cut place (b ∷ bs)) (visit .entry place (b ∷ bs) rest))
@@ -84,7 +84,7 @@ pub record Seen (bytes : Bytes) (size : ℕ) (e1 e3 : Bool) (e : Entry) (rest : 
 -- a written entry is seen as it is
 pub seen-written : (e1 : Bool) (n : ℕ) (missing : Missing) (rest : Bytes) → n < 4096 → Missing-fits missing
     → let e : Entry = record { nack-sn = n; missing = missing } in
-      Seen (encode-entry e1 e ++ rest) (length (encode-entry e1 e)) e1 false e rest
+    Seen (encode-entry e1 e ++ rest) (length (encode-entry e1 e)) e1 false e rest
 seen-written true n every rest h fits =
     record { long = omega arith; size-is = grind (arith, tells); e1-is = grind (arith, tells); e3-is = grind (arith, tells); entry-is = grind (arith, tells); rest-is = grind (arith, tells) }
 seen-written true n (span so-start so-end) rest h fits =
@@ -144,12 +144,12 @@ entry-writes-back =
     by-entry (λ bytes. Octets bytes → e3-of bytes ≡ false → encode-entry (e1-of bytes) (entry-of bytes) ≡ cleared-entry bytes)
     (λ b c rest e2 o e3. let oc : c < 256 = o 1 in grind (arith, tells))
     (λ b c d f g k rest e2 o e3.
-      let oc : c < 256 = o 1 in
-      let od : d < 256 = o 2 in
-      let of : f < 256 = o 3 in
-      let og : g < 256 = o 4 in
-      let ok : k < 256 = o 5 in
-      grind (arith, tells))
+    let oc : c < 256 = o 1 in
+    let od : d < 256 = o 2 in
+    let of : f < 256 = o 3 in
+    let og : g < 256 = o 4 in
+    let ok : k < 256 = o 5 in
+    grind (arith, tells))
 
 some-none : {A : Type 0} {x : A} → Some x ≡ None → ⊥
 some-none e = let z : _≡_ {A = ℕ} 0 1 = cc in omega arith
@@ -189,13 +189,13 @@ writes-back ack-sn (suc n) true place bytes o w v =
         → cond short (Some (at Malformed (place + length bytes))) (walk whole-entries n (e1-of bytes) next left) ≡ None
         → cond short None (cond (not e3 && ok) (walk (valid-entries ack-sn) n (e1-of bytes) next left) (Some (at InvalidEntry place))) ≡ None
         → (walk whole-entries n (e1-of bytes) next left ≡ None → walk (valid-entries ack-sn) n (e1-of bytes) next left ≡ None
-          → encode-entries (walk listing n (e1-of bytes) next left) ≡ walk clearing n (e1-of bytes) next left)
+        → encode-entries (walk listing n (e1-of bytes) next left) ≡ walk clearing n (e1-of bytes) next left)
         → encode-entries (cond short [] (entry-of bytes ∷ walk listing n (e1-of bytes) next left))
-          ≡ cond short bytes (cleared-entry bytes ++ walk clearing n (e1-of bytes) next left)
+        ≡ cond short bytes (cleared-entry bytes ++ walk clearing n (e1-of bytes) next left)
     go true s e3 e ok w′ v′ again = absurd (some-none w′)
     go false s true e ok w′ v′ again = absurd (some-none v′)
     go false s false e false w′ v′ again = absurd (some-none v′)
-    go false s false e true w′ v′ again = 
+    go false s false e true w′ v′ again =
         let flags = more-listed n (e1-of bytes) next left w′ in
         let here = entry-writes-back bytes (ltb-false (length bytes) (entry-length bytes) s) o e in
         let there = again w′ v′ in
@@ -215,7 +215,7 @@ seen-cleared rest =
 -- what a visit makes of an entry hangs on its fields, and elsewhere on how many bytes are left
 pub record Blind {A : Type 0} (visit : Visit A) : Type 0 where
   pub at-entry : (place : ℕ) (bytes other : Bytes) (x : A) → e3-of bytes ≡ e3-of other → entry-of bytes ≡ entry-of other
-    → visit .entry place bytes x ≡ visit .entry place other x
+      → visit .entry place bytes x ≡ visit .entry place other x
   pub at-cut : (place : ℕ) (bytes other : Bytes) → length bytes ≡ length other → visit .cut place bytes ≡ visit .cut place other
   pub at-end : (place : ℕ) (bytes other : Bytes) → length bytes ≡ length other → visit .end place bytes ≡ visit .end place other
 
@@ -232,9 +232,9 @@ module _ {A : Type 0} (visit : Visit A) (blind : Blind visit) where
 
       go : (short : Bool) → ltb (length bytes) (entry-length bytes) ≡ short
           → walk visit n (e1-of bytes) (place + entry-length bytes) (walk clearing n (e1-of bytes) (place + entry-length bytes) left)
-            ≡ walk visit n (e1-of bytes) (place + entry-length bytes) left
+          ≡ walk visit n (e1-of bytes) (place + entry-length bytes) left
           → walk visit (suc n) true place (cond short bytes (cleared-entry bytes ++ walk clearing n (e1-of bytes) (place + entry-length bytes) left))
-            ≡ cond short (visit .cut place bytes) (visit .entry place bytes (walk visit n (e1-of bytes) (place + entry-length bytes) left))
+          ≡ cond short (visit .cut place bytes) (visit .entry place bytes (walk visit n (e1-of bytes) (place + entry-length bytes) left))
       go true s again = cond-true _ _ _ s
       go false s again =
           let seen = seen-cleared (walk clearing n (e1-of bytes) (place + entry-length bytes) left) bytes (ltb-false (length bytes) (entry-length bytes) s) in
@@ -268,26 +268,26 @@ along-cleared visit blind e1 place bytes =
 
 pub blind-whole : Blind whole-entries
 blind-whole =
-    record
-    { at-entry = λ place bytes other x e3 e. refl
-    ; at-cut = λ place bytes other l. ap (λ n. Some (at Malformed (place + n))) l
-    ; at-end = λ place bytes other l. ap (λ n. cond (eqb n 0) None (Some (at Malformed place))) l
+    record {
+      at-entry = λ place bytes other x e3 e. refl;
+      at-cut = λ place bytes other l. ap (λ n. Some (at Malformed (place + n))) l;
+      at-end = λ place bytes other l. ap (λ n. cond (eqb n 0) None (Some (at Malformed place))) l;
     }
 
 pub blind-listing : Blind listing
 blind-listing =
-    record
-    { at-entry = λ place bytes other x e3 e. ap (λ entry. entry ∷ x) e
-    ; at-cut = λ place bytes other l. refl
-    ; at-end = λ place bytes other l. refl
+    record {
+      at-entry = λ place bytes other x e3 e. ap (λ entry. entry ∷ x) e;
+      at-cut = λ place bytes other l. refl;
+      at-end = λ place bytes other l. refl;
     }
 
 pub blind-valid : (ack-sn : ℕ) → Blind (valid-entries ack-sn)
 blind-valid ack-sn =
-    record
-    { at-entry = λ place bytes other x e3 e.
-        ap (λ b. cond (not b && valid ack-sn (entry-of bytes)) x (Some (at InvalidEntry place))) e3
-        ∙ ap (λ entry. cond (not (e3-of other) && valid ack-sn entry) x (Some (at InvalidEntry place))) e
-    ; at-cut = λ place bytes other l. refl
-    ; at-end = λ place bytes other l. refl
+    record {
+      at-entry = λ place bytes other x e3 e.
+          ap (λ b. cond (not b && valid ack-sn (entry-of bytes)) x (Some (at InvalidEntry place))) e3
+          ∙ ap (λ entry. cond (not (e3-of other) && valid ack-sn entry) x (Some (at InvalidEntry place))) e;
+      at-cut = λ place bytes other l. refl;
+      at-end = λ place bytes other l. refl;
     }

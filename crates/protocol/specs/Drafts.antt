@@ -36,10 +36,10 @@ add e d buffer =
     cond (ltb (length buffer) (d .size + length (encode-entry true e)))
     (record { answer = Err (at ShortBuffer 0); draft = d; buffer = buffer })
     (cond (in-order (e .missing))
-    (record
-    { answer = Ok tt
-    ; draft = record { size = d .size + length (encode-entry true e); last = d .size }
-    ; buffer = put-at (d .size) (encode-entry true e) buffer
+    (record {
+      answer = Ok tt;
+      draft = record { size = d .size + length (encode-entry true e); last = d .size };
+      buffer = put-at (d .size) (encode-entry true e) buffer;
     })
     (record { answer = Err (at InvalidEntry (d .size)); draft = d; buffer = buffer }))
 

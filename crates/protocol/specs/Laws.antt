@@ -31,7 +31,7 @@ abbrev pub One-pdcp-count : Type 0
 One-pdcp-count =
     (half rx-deliv sn c : ℕ) → sn < half + half
     → (pdcp-count (half + half) half rx-deliv sn ≡ Some c)
-      ↔ ((c % (half + half) ≡ sn) × (rx-deliv ≤ c + half) × (c < rx-deliv + half))
+    ↔ ((c % (half + half) ≡ sn) × (rx-deliv ≤ c + half) × (c < rx-deliv + half))
 
 -- formats ---------------------------------------------------------------------------------------------------------
 
@@ -74,7 +74,7 @@ Pdcp-round-trip =
     ((sn : ℕ) (packet : Bytes) → sn < 4096 → 1 ≤ length packet → decode-pdcp (encode-pdcp sn packet) ≡ Ok (sn, packet))
     × ((sdu packet : Bytes) (sn : ℕ) → Octets sdu → decode-pdcp sdu ≡ Ok (sn, packet) → byte sdu 0 < 144 → encode-pdcp sn packet ≡ sdu)
     × ((b c r : ℕ) (packet : Bytes) → b < 16 → r < 8
-      → decode-pdcp ((128 + 16 * r + b) ∷ c ∷ packet) ≡ decode-pdcp ((128 + b) ∷ c ∷ packet))
+    → decode-pdcp ((128 + 16 * r + b) ∷ c ∷ packet) ≡ decode-pdcp ((128 + b) ∷ c ∷ packet))
 
 -- A draft that took entries and is then closed has written the status report of these entries, or is refused as its
 -- writing would be.
@@ -83,4 +83,4 @@ Draft-writes =
     (ack-sn : ℕ) (es : List Entry) (buffer : Bytes) → Fits (status ack-sn es) → fill es opened buffer .answer ≡ Ok tt
     → (close ack-sn (fill es opened buffer .draft) (fill es opened buffer .buffer) .answer ≡ write (status ack-sn es) buffer .0)
     × (isOk (write (status ack-sn es) buffer .0) ≡ true
-      → close ack-sn (fill es opened buffer .draft) (fill es opened buffer .buffer) .buffer ≡ write (status ack-sn es) buffer .1)
+    → close ack-sn (fill es opened buffer .draft) (fill es opened buffer .buffer) .buffer ≡ write (status ack-sn es) buffer .1)

@@ -39,11 +39,11 @@ segment-of si so = cond (eqb si 0) whole (cond (eqb si 1) first (cond (eqb si 2)
 
 abbrev pub amd-of : Bytes → Amd
 amd-of bytes =
-    record
-    { poll = bit 6 (byte bytes 0)
-    ; sn = sn-field bytes
-    ; segment = segment-of (si-field bytes) (word bytes 2)
-    ; payload = drop (header-length (si-field bytes)) bytes
+    record {
+      poll = bit 6 (byte bytes 0);
+      sn = sn-field bytes;
+      segment = segment-of (si-field bytes) (word bytes 2);
+      payload = drop (header-length (si-field bytes)) bytes;
     }
 
 -- A segment with an SO does not begin at byte 0, and none passes the longest SDU.
@@ -73,9 +73,9 @@ e3-of bytes = bit 1 (byte bytes 1)
 
 abbrev pub entry-of : Bytes → Entry
 entry-of bytes =
-    record
-    { nack-sn = 16 * byte bytes 0 + byte bytes 1 / 16
-    ; missing = cond (bit 2 (byte bytes 1)) (span (word bytes 2) (word bytes 4)) every
+    record {
+      nack-sn = 16 * byte bytes 0 + byte bytes 1 / 16;
+      missing = cond (bit 2 (byte bytes 1)) (span (word bytes 2) (word bytes 4)) every;
     }
 
 -- What a walk along the entries makes of each, given what it made of those that follow, of one that is not whole,
@@ -103,10 +103,10 @@ listing =
 -- the entries end where the PDU does
 abbrev pub whole-entries : Visit (Option Fault)
 whole-entries =
-    record
-    { entry = λ place bytes rest. rest
-    ; cut = λ place bytes. Some (at Malformed (place + length bytes))
-    ; end = λ place bytes. cond (eqb (length bytes) 0) None (Some (at Malformed place))
+    record {
+      entry = λ place bytes rest. rest;
+      cut = λ place bytes. Some (at Malformed (place + length bytes));
+      end = λ place bytes. cond (eqb (length bytes) 0) None (Some (at Malformed place));
     }
 
 abbrev pub in-order : Missing → Bool
@@ -121,10 +121,10 @@ valid ack-sn e =
 -- the first entry that has E3 or is invalid
 abbrev pub valid-entries : ℕ → Visit (Option Fault)
 valid-entries ack-sn =
-    record
-    { entry = λ place bytes rest. cond (not (e3-of bytes) && valid ack-sn (entry-of bytes)) rest (Some (at InvalidEntry place))
-    ; cut = λ place bytes. None
-    ; end = λ place bytes. None
+    record {
+      entry = λ place bytes rest. cond (not (e3-of bytes) && valid ack-sn (entry-of bytes)) rest (Some (at InvalidEntry place));
+      cut = λ place bytes. None;
+      end = λ place bytes. None;
     }
 
 abbrev pub e1-field : Bytes → Bool

@@ -1,19 +1,36 @@
 //! The laws of numbers and formats, each the contract of a function that does nothing else.
 
 ghost use Rattle.protocol.specs.Examples.{Worked-examples};
-ghost use Rattle.protocol.specs.Laws.{One-count, One-pdcp-count};
+ghost use Rattle.protocol.specs.Laws.{One-count, One-pdcp-count, Written-reads-back, Read-writes-back, Reserved-not-read, Pdcp-round-trip, Draft-writes};
 
 pub fn sn_stands_for_one_count()
     ensures { λ _. ⌜ One-count ⌝ }
-{
-}
+{}
 
 pub fn sn_stands_for_one_pdcp_count()
     ensures { λ _. ⌜ One-pdcp-count ⌝ }
-{
-}
+{}
+
+pub fn written_pdu_reads_back()
+    ensures { λ _. ⌜ Written-reads-back ⌝ }
+{}
+
+pub fn read_pdu_writes_back()
+    ensures { λ _. ⌜ Read-writes-back ⌝ }
+{}
+
+pub fn reserved_bits_are_not_read()
+    ensures { λ _. ⌜ Reserved-not-read ⌝ }
+{}
+
+pub fn pdcp_header_round_trip()
+    ensures { λ _. ⌜ Pdcp-round-trip ⌝ }
+{}
+
+pub fn draft_writes_its_entries()
+    ensures { λ _. ⌜ Draft-writes ⌝ }
+{}
 
 pub fn worked_examples()
     ensures { λ _. ⌜ Worked-examples ⌝ }
-{
-}
+{}
