@@ -5,5 +5,6 @@ pub mod Pdus
 pub mod Reading
 pub mod Writing
 pub mod Drafts
+pub mod Airs
 pub mod Laws
 pub mod Examples
