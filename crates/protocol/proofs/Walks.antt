@@ -151,7 +151,7 @@ entry-writes-back =
     let ok : k < 256 = o 5 in
     grind (arith, tells))
 
-some-none : {A : Type 0} {x : A} → Some x ≡ None → ⊥
+pub some-none : {A : Type 0} {x : A} → Some x ≡ None → ⊥
 some-none e = let z : _≡_ {A = ℕ} 0 1 = cc in omega arith
 
 pub octets-drop : (k : ℕ) (bytes : Bytes) → Octets bytes → Octets (drop k bytes)
@@ -291,3 +291,11 @@ blind-valid ack-sn =
       at-cut = λ place bytes other l. refl;
       at-end = λ place bytes other l. refl;
     }
+
+-- the entries do not hang on the place from which they are counted
+pub listing-anywhere : (n : ℕ) (e1 : Bool) (place other : ℕ) (bytes : Bytes) → walk listing n e1 place bytes ≡ walk listing n e1 other bytes
+listing-anywhere n false place other bytes = refl
+listing-anywhere zero true place other bytes = refl
+listing-anywhere (suc n) true place other bytes =
+    ap (λ es. cond (ltb (length bytes) (entry-length bytes)) [] (entry-of bytes ∷ es))
+    (listing-anywhere n (e1-of bytes) (place + entry-length bytes) (other + entry-length bytes) (drop (entry-length bytes) bytes))

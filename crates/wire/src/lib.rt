@@ -1,0 +1,21 @@
+//! PDUs as bytes: sequence numbers, a reader of received PDUs, and writers into lent buffers.
+
+mod bits;
+mod entries;
+mod numbers;
+mod pdus;
+mod reading;
+
+pub use numbers::PdcpCount;
+pub use numbers::RlcCount;
+pub use numbers::Sn;
+pub use pdus::Entries;
+pub use pdus::Entry;
+pub use pdus::Missing;
+pub use pdus::Part;
+pub use pdus::Pdu;
+pub use protocol::End;
+pub use protocol::Fault;
+pub use protocol::Layer;
+pub use protocol::Refusal;
+pub use reading::Reader;
