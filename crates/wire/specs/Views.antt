@@ -1,9 +1,10 @@
 -- What the types of this crate stand for.
 use mathlib.Core.Bool.{Bool, true, false, cond}
 use mathlib.Core.List.{List, [], _∷_}
+use mathlib.Core.Path.{_≡_}
 use Prim.Native.Nat.{ℕ, _%_, _^_}
 use lib.Dec.{ltb}
-use lib.ListN.{length}
+use lib.ListN.{length, drop}
 use Rattle.protocol.specs.Numbers.{sn-modulus}
 use Rattle.protocol.specs.Pdus as protocol
 use Rattle.protocol.specs.Bytes.{Bytes}
@@ -22,6 +23,7 @@ use Rattle.wire.specs.declared.pdus.Entries.{Entries}
 use Rattle.wire.specs.declared.pdus.Entry.{Entry}
 use Rattle.wire.specs.declared.pdus.Missing.{Missing}
 use Rattle.wire.specs.declared.pdus.Missing.the-variants.{Every, Span}
+use Rattle.wire.specs.declared.pdus.Part.{Part}
 use Rattle.wire.specs.declared.pdus.Pdu.{Pdu}
 use Rattle.wire.specs.declared.pdus.Pdu.the-variants.{Whole, First, Middle, Last, Status}
 
@@ -96,3 +98,16 @@ pdu-of (Status ack-sn entries) = protocol.status (sn-of ack-sn) (entries-of entr
 abbrev pub read-of : Result Pdu Fault → Result protocol.Pdu Fault
 read-of (Ok pdu) = Ok (pdu-of pdu)
 read-of (Err fault) = Err fault
+
+-- a part of these bytes: all from `place` on
+abbrev pub Begins : Bytes → ℕ → Part → Type 0
+Begins bytes place part = (part .place ≡ place) × (part .bytes .now ≡ drop place bytes)
+
+-- the data field of what was read stands behind the header
+abbrev pub Placed : Bytes → Result Pdu Fault → Type 0
+Placed bytes (Ok (Whole poll sn part)) = Begins bytes 2 part
+Placed bytes (Ok (First poll sn part)) = Begins bytes 2 part
+Placed bytes (Ok (Middle poll sn so part)) = Begins bytes 4 part
+Placed bytes (Ok (Last poll sn so part)) = Begins bytes 4 part
+Placed bytes (Ok (Status ack-sn entries)) = Unit {0}
+Placed bytes (Err fault) = Unit {0}

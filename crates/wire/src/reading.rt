@@ -4,7 +4,7 @@ ghost use lib.ListN.{length};
 ghost use mathlib.Core.Path.{_≡_};
 ghost use Prim.Native.Nat.{_<_, _≤_};
 ghost use Rattle.protocol.specs.Reading.{decode, read-amd, read-status, si-field};
-ghost use Rattle.wire.specs.Views.{read-of};
+ghost use Rattle.wire.specs.Views.{read-of, Placed};
 use crate::bits::fault;
 use crate::bits::has_bit;
 use crate::bits::word;
@@ -35,7 +35,8 @@ pub struct Reader<'a> {
 
 /// An AMD PDU, whose D/C bit was looked at.
 fn read_amd<'a>(bytes: &'a [u8]) -> Result<Pdu<'a>, Fault>
-    ensures { λ r. ⌜ read-of r ≡ read-amd (now (bytes .entry)) ⌝ }
+    ensures value { λ r. ⌜ read-of r ≡ read-amd (now (bytes .entry)) ⌝ }
+    ensures places { λ r. ⌜ Placed (now (bytes .entry)) r ⌝ }
 {
     let size = bytes.len();
     if size <= 2 {
@@ -48,7 +49,8 @@ fn read_amd<'a>(bytes: &'a [u8]) -> Result<Pdu<'a>, Fault>
 /// A whole SDU or its first segment: no SO.
 fn read_start<'a>(bytes: &'a [u8], si: u8) -> Result<Pdu<'a>, Fault>
     requires { ⌜ 2 < length (now bytes) ⌝ ∗ ⌜ si ≡ si-field (now bytes) ⌝ ∗ ⌜ si < 2 ⌝ }
-    ensures { λ r. ⌜ read-of r ≡ read-amd (now (bytes .entry)) ⌝ }
+    ensures value { λ r. ⌜ read-of r ≡ read-amd (now (bytes .entry)) ⌝ }
+    ensures places { λ r. ⌜ Placed (now (bytes .entry)) r ⌝ }
 {
     let size = bytes.len();
     if size - 2 > MAX_SDU {
@@ -66,7 +68,8 @@ fn read_start<'a>(bytes: &'a [u8], si: u8) -> Result<Pdu<'a>, Fault>
 /// A middle or last segment, from byte SO on.
 fn read_rest<'a>(bytes: &'a [u8], si: u8) -> Result<Pdu<'a>, Fault>
     requires { ⌜ 2 < length (now bytes) ⌝ ∗ ⌜ si ≡ si-field (now bytes) ⌝ ∗ ⌜ 2 ≤ si ⌝ }
-    ensures { λ r. ⌜ read-of r ≡ read-amd (now (bytes .entry)) ⌝ }
+    ensures value { λ r. ⌜ read-of r ≡ read-amd (now (bytes .entry)) ⌝ }
+    ensures places { λ r. ⌜ Placed (now (bytes .entry)) r ⌝ }
 {
     let size = bytes.len();
     if size <= 4 {
@@ -87,7 +90,8 @@ fn read_rest<'a>(bytes: &'a [u8], si: u8) -> Result<Pdu<'a>, Fault>
 
 /// A status report, whose D/C bit and CPT were looked at.
 fn read_status<'a>(bytes: &'a [u8]) -> Result<Pdu<'a>, Fault>
-    ensures { λ r. ⌜ read-of r ≡ read-status (now (bytes .entry)) ⌝ }
+    ensures value { λ r. ⌜ read-of r ≡ read-status (now (bytes .entry)) ⌝ }
+    ensures places { λ r. ⌜ Placed (now (bytes .entry)) r ⌝ }
 {
     let size = bytes.len();
     if size < 3 {
@@ -103,7 +107,8 @@ fn read_status<'a>(bytes: &'a [u8]) -> Result<Pdu<'a>, Fault>
 impl<'a> Reader<'a> {
     /// The PDU, or its first fault.
     pub fn read(self) -> Result<Pdu<'a>, Fault>
-        ensures { λ r. ⌜ read-of r ≡ decode (self .entry .end) (now (self .entry .bytes)) ⌝ }
+        ensures value { λ r. ⌜ read-of r ≡ decode (self .entry .end) (now (self .entry .bytes)) ⌝ }
+        ensures places { λ r. ⌜ Placed (now (self .entry .bytes)) r ⌝ }
     {
         let Reader { end, bytes } = self;
         if bytes.is_empty() {

@@ -1,9 +1,11 @@
+-- The part behind the header is all that follows it.
 use borrow.Author.Needs.{needs}
+use mathlib.Core.Path.{refl}
 use Rattle.std.proofs.shelf.Lists.{take-rest}
 use Rattle.wire.proofs.reading.read_rest.Needs as need
 
 pub returns-in-2 : need.returns-in-2
-returns-in-2 c = search (needs, take-rest)
+returns-in-2 c = record { value = search (needs, take-rest); places = (refl, take-rest (c .args .bytes .now) 4) }
 
 pub returns-in-rest : need.returns-in-rest
-returns-in-rest c = search (needs, take-rest)
+returns-in-rest c = record { value = search (needs, take-rest); places = (refl, take-rest (c .args .bytes .now) 4) }
