@@ -45,7 +45,7 @@ last-place last place [] = last
 last-place last place (e ∷ es) = last-place place (place + length (encode-entry true e)) es
 
 -- two writes, one after the other
-put-put : (i : ℕ) (xs ys buffer : Bytes) → i + length xs + length ys ≤ length buffer
+pub put-put : (i : ℕ) (xs ys buffer : Bytes) → i + length xs + length ys ≤ length buffer
     → put-at (i + length xs) ys (put-at i xs buffer) ≡ put-at i (xs ++ ys) buffer
 put-put i xs ys buffer h =
     let front = take i buffer ++ xs in

@@ -13,7 +13,7 @@ use Rattle.protocol.specs.Laws.{Segment-fits, Entries-fit, Written-reads-back,
 use Rattle.protocol.specs.Pdus.{Segment, whole, first, middle, last, Amd, Entry, Pdu, amd, status, more, encode-amd, encode-entries, encode-status, encode, encode-pdcp}
 use Rattle.protocol.specs.Reading.{along, listing, whole-entries, valid-entries, own-kind, clearing, cleared, decode, decode-pdcp, amd-of, header-length, si-field}
 use Rattle.protocol.specs.Refusals.{at, unless}
-use Rattle.protocol.specs.Writing.{reader, amd-fault, entries-fault}
+use Rattle.protocol.specs.Writing.{reader, pdu-fault, entries-fault}
 use Rattle.protocol.specs.declared.faults.Fault.{Fault}
 use Rattle.protocol.specs.declared.faults.Refusal.the-variants.{WrongKind}
 use Rattle.protocol.specs.declared.faults.End.the-variants.{Near, Far}
@@ -27,7 +27,7 @@ use Rattle.std.specs.declared.result.Result.the-variants.{Ok, Err}
 -- By cases of the bits, the rest is arithmetic.
 amd-reads-back : (poll : Bool) (sn : ℕ) (segment : Segment) (payload : Bytes) → sn < 4096 → Segment-fits segment
     → let a : Amd = record { poll = poll; sn = sn; segment = segment; payload = payload } in
-    decode Far (encode-amd a) ≡ unless (amd-fault a) (Ok (amd a))
+    decode Far (encode-amd a) ≡ unless (pdu-fault (amd a)) (Ok (amd a))
 amd-reads-back true sn whole payload h fits = grind (arith, tells)
 amd-reads-back false sn whole payload h fits = grind (arith, tells)
 amd-reads-back true sn first payload h fits = grind (arith, tells)

@@ -5,7 +5,7 @@ use Prim.Native.Nat.{ℕ, _+_, _-_, _*_, _/_, _%_}
 use lib.Dec.{ltb, eqb}
 use lib.ListN.{length, take, drop, set}
 use Rattle.protocol.specs.Bytes.{Bytes, byte, bit, flag, put, put-at}
-use Rattle.protocol.specs.Pdus.{Amd, Entry, Pdu, amd, status, si, so-field, encode, encode-entry, encode-status}
+use Rattle.protocol.specs.Pdus.{Segment, Amd, Entry, Pdu, amd, status, si, so-field, encode, encode-entry, encode-status}
 use Rattle.protocol.specs.Reading.{offset-fault, valid, in-order, decode}
 use Rattle.protocol.specs.Refusals.{at, unless}
 use Rattle.protocol.specs.declared.faults.End.{End}
@@ -22,11 +22,10 @@ abbrev pub reader : Pdu → End
 reader (amd a) = Far
 reader (status ack-sn es) = Near
 
--- An AMD PDU carries data, at an offset that its SDU has.
-abbrev pub amd-fault : Amd → Option Fault
-amd-fault a =
-    cond (eqb (length (a .payload)) 0) (Some (at Malformed (2 + length (so-field (a .segment)))))
-    (offset-fault (a .segment) (length (a .payload)))
+-- n bytes of data: an AMD PDU carries some, at an offset that its SDU has
+abbrev pub data-fault : Segment → ℕ → Option Fault
+data-fault segment n =
+    cond (eqb n 0) (Some (at Malformed (2 + length (so-field segment)))) (offset-fault segment n)
 
 -- the first invalid entry, the first of all standing at `place`
 abbrev pub entries-fault : ℕ → ℕ → List Entry → Option Fault
@@ -36,7 +35,7 @@ entries-fault ack-sn place (e ∷ es) =
 
 -- why a PDU is neither written nor read
 abbrev pub pdu-fault : Pdu → Option Fault
-pdu-fault (amd a) = amd-fault a
+pdu-fault (amd a) = data-fault (a .segment) (length (a .payload))
 pdu-fault (status ack-sn es) = entries-fault ack-sn 3 es
 
 -- Refused with nothing written, or all written: then the answer is the length.

@@ -25,7 +25,10 @@ use Rattle.wire.specs.declared.pdus.Missing.{Missing}
 use Rattle.wire.specs.declared.pdus.Missing.the-variants.{Every, Span}
 use Rattle.wire.specs.declared.pdus.Part.{Part}
 use Rattle.wire.specs.declared.pdus.Pdu.{Pdu}
-use Rattle.wire.specs.declared.pdus.Pdu.the-variants.{Whole, First, Middle, Last, Status}
+use Rattle.wire.specs.declared.pdus.Pdu.the-variants as read
+use Rattle.wire.specs.declared.writing.Header.{Header}
+use Rattle.wire.specs.declared.writing.Segment.{Segment}
+use Rattle.wire.specs.declared.writing.Segment.the-variants.{Whole, First, Middle, Last}
 
 abbrev pub sn-of : Sn → ℕ
 sn-of sn = sn .value % sn-modulus
@@ -89,11 +92,11 @@ front [] = (None, [])
 front (x ∷ xs) = (Some x, xs)
 
 abbrev pub pdu-of : Pdu → protocol.Pdu
-pdu-of (Whole poll sn part) = protocol.amd (record { poll = poll; sn = sn-of sn; segment = protocol.whole; payload = part .bytes .now })
-pdu-of (First poll sn part) = protocol.amd (record { poll = poll; sn = sn-of sn; segment = protocol.first; payload = part .bytes .now })
-pdu-of (Middle poll sn so part) = protocol.amd (record { poll = poll; sn = sn-of sn; segment = protocol.middle so; payload = part .bytes .now })
-pdu-of (Last poll sn so part) = protocol.amd (record { poll = poll; sn = sn-of sn; segment = protocol.last so; payload = part .bytes .now })
-pdu-of (Status ack-sn entries) = protocol.status (sn-of ack-sn) (entries-of entries)
+pdu-of (read.Whole poll sn part) = protocol.amd (record { poll = poll; sn = sn-of sn; segment = protocol.whole; payload = part .bytes .now })
+pdu-of (read.First poll sn part) = protocol.amd (record { poll = poll; sn = sn-of sn; segment = protocol.first; payload = part .bytes .now })
+pdu-of (read.Middle poll sn so part) = protocol.amd (record { poll = poll; sn = sn-of sn; segment = protocol.middle so; payload = part .bytes .now })
+pdu-of (read.Last poll sn so part) = protocol.amd (record { poll = poll; sn = sn-of sn; segment = protocol.last so; payload = part .bytes .now })
+pdu-of (read.Status ack-sn entries) = protocol.status (sn-of ack-sn) (entries-of entries)
 
 abbrev pub read-of : Result Pdu Fault → Result protocol.Pdu Fault
 read-of (Ok pdu) = Ok (pdu-of pdu)
@@ -105,9 +108,22 @@ Begins bytes place part = (part .place ≡ place) × (part .bytes .now ≡ drop 
 
 -- the data field of what was read stands behind the header
 abbrev pub Placed : Bytes → Result Pdu Fault → Type 0
-Placed bytes (Ok (Whole poll sn part)) = Begins bytes 2 part
-Placed bytes (Ok (First poll sn part)) = Begins bytes 2 part
-Placed bytes (Ok (Middle poll sn so part)) = Begins bytes 4 part
-Placed bytes (Ok (Last poll sn so part)) = Begins bytes 4 part
-Placed bytes (Ok (Status ack-sn entries)) = Unit {0}
+Placed bytes (Ok (read.Whole poll sn part)) = Begins bytes 2 part
+Placed bytes (Ok (read.First poll sn part)) = Begins bytes 2 part
+Placed bytes (Ok (read.Middle poll sn so part)) = Begins bytes 4 part
+Placed bytes (Ok (read.Last poll sn so part)) = Begins bytes 4 part
+Placed bytes (Ok (read.Status ack-sn entries)) = Unit {0}
 Placed bytes (Err fault) = Unit {0}
+
+abbrev pub segment-of : Segment → protocol.Segment
+segment-of Whole = protocol.whole
+segment-of First = protocol.first
+segment-of (Middle so) = protocol.middle so
+segment-of (Last so) = protocol.last so
+
+-- the PDU of a header and its data
+abbrev pub amd-of : Header → Bytes → protocol.Amd
+amd-of h bytes = record { poll = h .poll; sn = sn-of (h .sn); segment = segment-of (h .segment); payload = bytes }
+
+abbrev pub header-bytes : Header → Bytes
+header-bytes h = protocol.encode-amd (amd-of h [])

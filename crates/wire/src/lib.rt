@@ -5,6 +5,7 @@ mod entries;
 mod numbers;
 mod pdus;
 mod reading;
+mod writing;
 
 pub use numbers::PdcpCount;
 pub use numbers::RlcCount;
@@ -19,3 +20,5 @@ pub use protocol::Fault;
 pub use protocol::Layer;
 pub use protocol::Refusal;
 pub use reading::Reader;
+pub use writing::Header;
+pub use writing::Segment;

@@ -18,7 +18,7 @@ use protocol::Fault;
 use protocol::Refusal;
 
 /// The longest SDU: a packet of 500 bytes with its PDCP header.
-const MAX_SDU: usize = 502;
+pub(crate) const MAX_SDU: usize = 502;
 
 /// The P bit of an AMD PDU's first byte.
 const POLL: u32 = 6;
