@@ -25,16 +25,16 @@ encoded h bytes =
 pub amd-written : (h : Header) (bytes buffer : Bytes) → length (header-bytes h) + length bytes ≤ length buffer
     → pdu-fault (amd (amd-of h bytes)) ≡ None
     → (Ok (length (header-bytes h) + length bytes), put-at (length (header-bytes h)) bytes (put-at 0 (header-bytes h) buffer))
-      ≡ write (amd (amd-of h bytes)) buffer
+    ≡ write (amd (amd-of h bytes)) buffer
 amd-written h bytes buffer fits fine =
     let head = header-bytes h in
     let pdu = amd (amd-of h bytes) in
     let size : length head + length bytes ≡ length (encode pdu) = sym (length-append head bytes) ∙ ap length (encoded h bytes) in
     let from-start : put-at (length head) bytes (put-at 0 head buffer) ≡ put-at (0 + length head) bytes (put-at 0 head buffer) =
-        ap (λ n. put-at n bytes (put-at 0 head buffer)) (sym (zero-add (length head))) in
+    ap (λ n. put-at n bytes (put-at 0 head buffer)) (sym (zero-add (length head))) in
     let whole : put-at 0 (encode pdu) buffer ≡ put (encode pdu) buffer = ap (λ n. encode pdu ++ drop n buffer) (zero-add (length (encode pdu))) in
     let bytes-left : put-at (length head) bytes (put-at 0 head buffer) ≡ put (encode pdu) buffer =
-        from-start ∙ put-put 0 head bytes buffer (omega (arith, fits)) ∙ ap (λ xs. put-at 0 xs buffer) (encoded h bytes) ∙ whole in
+    from-start ∙ put-put 0 head bytes buffer (omega (arith, fits)) ∙ ap (λ xs. put-at 0 xs buffer) (encoded h bytes) ∙ whole in
     let room : ltb (length buffer) (length (encode pdu)) ≡ false = le-ltb (length buffer) (length (encode pdu)) (omega (arith, fits, size)) in
     ap (λ n. (Ok n, put-at (length head) bytes (put-at 0 head buffer))) size ∙ ap (λ b. (Ok (length (encode pdu)), b)) bytes-left
     ∙ sym (cond-false _ _ _ room ∙ ap (λ f. written f (encode pdu) buffer) fine)

@@ -60,10 +60,10 @@ pub record Walked (ack-sn : ℕ) (e1 : Bool) (bytes : Bytes) (size : ℕ) (more 
 pub walked-start : (ack-sn : ℕ) (e1 : Bool) (pdu : Bytes) → 3 ≤ length pdu → Walked ack-sn e1 (drop 3 pdu) (length pdu) e1 (drop 3 pdu) None
 walked-start ack-sn e1 pdu h =
     let place : 3 ≡ length pdu - length (drop 3 pdu) = omega (arith, length-drop 3 pdu) in
-    record
-    { within = omega (arith, length-drop 3 pdu)
-    ; whole = ap (λ n. along whole-entries e1 n (drop 3 pdu)) place
-    ; valid = ap (λ n. along (valid-entries ack-sn) e1 n (drop 3 pdu)) place
+    record {
+      within = omega (arith, length-drop 3 pdu);
+      whole = ap (λ n. along whole-entries e1 n (drop 3 pdu)) place;
+      valid = ap (λ n. along (valid-entries ack-sn) e1 n (drop 3 pdu)) place;
     }
 
 chosen : (fine : Bool) (here : ℕ) (later : Option Fault) → cond fine later (Some (at InvalidEntry here)) ≡ first-of (noted None fine here) later
@@ -72,8 +72,8 @@ chosen false here later = refl
 
 looked-at : (ack-sn place : ℕ) (rest : Bytes) (invalid : Option ℕ) (raw : Raw) → found-at rest ≡ Some raw
     → first-of invalid (along (valid-entries ack-sn) true place rest)
-      ≡ first-of (noted invalid (not (raw .e3) && valid-entry ack-sn (raw .entry)) place)
-        (along (valid-entries ack-sn) (raw .e1) (place + raw .size) (drop (raw .size) rest))
+    ≡ first-of (noted invalid (not (raw .e3) && valid-entry ack-sn (raw .entry)) place)
+    (along (valid-entries ack-sn) (raw .e1) (place + raw .size) (drop (raw .size) rest))
 looked-at ack-sn place rest (Some p) raw e = refl
 looked-at ack-sn place rest None raw e =
     along-found (valid-entries ack-sn) place rest raw e
@@ -83,17 +83,17 @@ looked-at ack-sn place rest None raw e =
 pub walked-on : (ack-sn : ℕ) (e1 : Bool) (bytes : Bytes) (size : ℕ) (rest : Bytes) (invalid : Option ℕ) (raw : Raw)
     → Walked ack-sn e1 bytes size true rest invalid → found-at rest ≡ Some raw
     → Walked ack-sn e1 bytes size (raw .e1) (drop (raw .size) rest)
-      (noted invalid (not (raw .e3) && valid-entry ack-sn (raw .entry)) (size - length rest))
+    (noted invalid (not (raw .e3) && valid-entry ack-sn (raw .entry)) (size - length rest))
 walked-on ack-sn e1 bytes size rest invalid raw w e =
     let is = found-is rest raw e in
     let long = ltb-false (length rest) (entry-length rest) (is .0) in
     let same : entry-length rest ≡ raw .size = ap (λ r. r .size) (is .1) in
     let next : size - length rest + raw .size ≡ size - length (drop (raw .size) rest) = omega (arith, long, same, w .within, length-drop (raw .size) rest) in
-    record
-    { within = omega (arith, w .within, length-drop (raw .size) rest)
-    ; whole = w .whole ∙ along-found whole-entries (size - length rest) rest raw e ∙ ap (λ n. along whole-entries (raw .e1) n (drop (raw .size) rest)) next
-    ; valid = w .valid ∙ looked-at ack-sn (size - length rest) rest invalid raw e
-        ∙ ap (λ n. first-of (noted invalid (not (raw .e3) && valid-entry ack-sn (raw .entry)) (size - length rest)) (along (valid-entries ack-sn) (raw .e1) n (drop (raw .size) rest))) next
+    record {
+      within = omega (arith, w .within, length-drop (raw .size) rest);
+      whole = w .whole ∙ along-found whole-entries (size - length rest) rest raw e ∙ ap (λ n. along whole-entries (raw .e1) n (drop (raw .size) rest)) next;
+      valid = w .valid ∙ looked-at ack-sn (size - length rest) rest invalid raw e
+          ∙ ap (λ n. first-of (noted invalid (not (raw .e3) && valid-entry ack-sn (raw .entry)) (size - length rest)) (along (valid-entries ack-sn) (raw .e1) n (drop (raw .size) rest))) next;
     }
 
 not-found : (bytes : Bytes) → found-at bytes ≡ None → ltb (length bytes) (entry-length bytes) ≡ true
@@ -108,7 +108,7 @@ pub walked-cut : (ack-sn : ℕ) (e1 : Bool) (bytes : Bytes) (size : ℕ) (rest :
     → checked-entries ack-sn e1 bytes ≡ Err (at Malformed size)
 walked-cut ack-sn e1 bytes size rest invalid w e =
     ap (λ f. unless f (unless (along (valid-entries ack-sn) e1 3 bytes) (Ok tt)))
-    ( w .whole ∙ along-step whole-entries (size - length rest) rest ∙ cond-true _ _ _ (not-found rest e)
+    (w .whole ∙ along-step whole-entries (size - length rest) rest ∙ cond-true _ _ _ (not-found rest e)
     ∙ ap (λ n. Some (at Malformed n)) whole-size
     )
   where
@@ -137,8 +137,8 @@ answered (Err fault) pdu = Err fault
 
 pub status-by : (bytes : Bytes) → 3 ≤ length bytes
     → read-status bytes
-      ≡ answered (checked-entries (sn-field bytes) (e1-field bytes) (drop 3 bytes))
-        (status (sn-field bytes) (along listing (e1-field bytes) 3 (drop 3 bytes)))
+    ≡ answered (checked-entries (sn-field bytes) (e1-field bytes) (drop 3 bytes))
+    (status (sn-field bytes) (along listing (e1-field bytes) 3 (drop 3 bytes)))
 status-by bytes h =
     cond-false _ _ _ (le-ltb (length bytes) 3 h)
     ∙ go (along whole-entries (e1-field bytes) 3 (drop 3 bytes)) (along (valid-entries (sn-field bytes)) (e1-field bytes) 3 (drop 3 bytes))

@@ -21,7 +21,9 @@ use protocol::Refusal;
 /// Flags in an entry's second byte: whether another entry follows, whether SOstart and SOend do,
 /// and one that no valid entry has.
 const E1: u32 = 3;
+
 const E2: u32 = 2;
+
 const E3: u32 = 1;
 
 /// An entry at the start of some bytes, its length there and its flags.
@@ -47,15 +49,31 @@ pub(crate) fn find_entry(bytes: &[u8]) -> Option<Found>
     let e1 = has_bit(flags, E1);
     let e3 = has_bit(flags, E3);
     if !has_bit(flags, E2) {
-        let entry = Entry { nack_sn, missing: Missing::Every };
-        return Some(Found { entry, size: 2, e1, e3 });
+        let entry = Entry {
+            nack_sn,
+            missing: Missing::Every,
+        };
+        return Some(Found {
+            entry,
+            size: 2,
+            e1,
+            e3,
+        });
     }
     if left < 6 {
         return None;
     }
-    let missing = Missing::Span { so_start: word(bytes, 2), so_end: word(bytes, 4) };
+    let missing = Missing::Span {
+        so_start: word(bytes, 2),
+        so_end: word(bytes, 4),
+    };
     let entry = Entry { nack_sn, missing };
-    Some(Found { entry, size: 6, e1, e3 })
+    Some(Found {
+        entry,
+        size: 6,
+        e1,
+        e3,
+    })
 }
 
 /// Whether the span, if any, holds a byte.
@@ -100,7 +118,12 @@ pub(crate) fn check_entries(bytes: &[u8], ack_sn: Sn, e1: bool) -> Result<(), Fa
         let Some(found) = find_entry(rest) else {
             return Err(fault(Refusal::Malformed, size));
         };
-        let Found { entry, size: length, e1: follows, e3 } = found;
+        let Found {
+            entry,
+            size: length,
+            e1: follows,
+            e3,
+        } = found;
         invalid = first_invalid(invalid, is_valid(ack_sn, entry, e3), place);
         rest = &rest[length..rest.len()];
         more = follows;
@@ -123,7 +146,12 @@ impl Entries<'_> {
             return None;
         }
         let rest = self.rest;
-        let Found { entry, size, e1, e3: _ } = find_entry(rest)?;
+        let Found {
+            entry,
+            size,
+            e1,
+            e3: _,
+        } = find_entry(rest)?;
         self.rest = &rest[size..rest.len()];
         self.more = e1;
         Some(entry)

@@ -1,12 +1,17 @@
 //! PDUs as bytes: sequence numbers, a reader of received PDUs, and writers into lent buffers.
 
 mod bits;
+mod drafting;
+mod drafts;
 mod entries;
 mod numbers;
 mod pdus;
 mod reading;
 mod writing;
 
+pub use drafting::NotClosed;
+pub use drafts::Closed;
+pub use drafts::Draft;
 pub use numbers::PdcpCount;
 pub use numbers::RlcCount;
 pub use numbers::Sn;
@@ -22,3 +27,4 @@ pub use protocol::Refusal;
 pub use reading::Reader;
 pub use writing::Header;
 pub use writing::Segment;
+pub use writing::write_amd;

@@ -90,7 +90,9 @@ impl RlcCount {
     pub fn sn(self) -> Sn
         ensures { λ r. ⌜ sn-of r ≡ rlc-of self % sn-modulus ⌝ }
     {
-        Sn { value: (self.value % 4096) as u16 }
+        Sn {
+            value: (self.value % 4096) as u16,
+        }
     }
 }
 
@@ -116,6 +118,8 @@ impl PdcpCount {
     pub fn sn(self) -> Sn
         ensures { λ r. ⌜ sn-of r ≡ pdcp-of self % sn-modulus ⌝ }
     {
-        Sn { value: (self.value % 4096) as u16 }
+        Sn {
+            value: (self.value % 4096) as u16,
+        }
     }
 }

@@ -36,9 +36,30 @@ pub struct Entries<'a> {
 /// A PDU that was read. The data field of a segment is a part of the bytes read.
 #[derive(Drop)]
 pub enum Pdu<'a> {
-    Whole { poll: bool, sn: Sn, data: Part<'a> },
-    First { poll: bool, sn: Sn, data: Part<'a> },
-    Middle { poll: bool, sn: Sn, so: u16, data: Part<'a> },
-    Last { poll: bool, sn: Sn, so: u16, data: Part<'a> },
-    Status { ack_sn: Sn, entries: Entries<'a> },
+    Whole {
+        poll: bool,
+        sn: Sn,
+        data: Part<'a>,
+    },
+    First {
+        poll: bool,
+        sn: Sn,
+        data: Part<'a>,
+    },
+    Middle {
+        poll: bool,
+        sn: Sn,
+        so: u16,
+        data: Part<'a>,
+    },
+    Last {
+        poll: bool,
+        sn: Sn,
+        so: u16,
+        data: Part<'a>,
+    },
+    Status {
+        ack_sn: Sn,
+        entries: Entries<'a>,
+    },
 }

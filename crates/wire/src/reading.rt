@@ -43,7 +43,11 @@ fn read_amd<'a>(bytes: &'a [u8]) -> Result<Pdu<'a>, Fault>
         return Err(fault(Refusal::Malformed, size));
     }
     let si = bytes[0] / 16 % 4;
-    if si < 2 { read_start(bytes, si) } else { read_rest(bytes, si) }
+    if si < 2 {
+        read_start(bytes, si)
+    } else {
+        read_rest(bytes, si)
+    }
 }
 
 /// A whole SDU or its first segment: no SO.
@@ -58,7 +62,10 @@ fn read_start<'a>(bytes: &'a [u8], si: u8) -> Result<Pdu<'a>, Fault>
     }
     let poll = has_bit(bytes[0], POLL);
     let sn = Sn::new(word(bytes, 0));
-    let data = Part { bytes: &bytes[2..size], place: 2 };
+    let data = Part {
+        bytes: &bytes[2..size],
+        place: 2,
+    };
     match si {
         0 => Ok(Pdu::Whole { poll, sn, data }),
         _ => Ok(Pdu::First { poll, sn, data }),
@@ -81,7 +88,10 @@ fn read_rest<'a>(bytes: &'a [u8], si: u8) -> Result<Pdu<'a>, Fault>
     }
     let poll = has_bit(bytes[0], POLL);
     let sn = Sn::new(word(bytes, 0));
-    let data = Part { bytes: &bytes[4..size], place: 4 };
+    let data = Part {
+        bytes: &bytes[4..size],
+        place: 4,
+    };
     match si {
         2 => Ok(Pdu::Last { poll, sn, so, data }),
         _ => Ok(Pdu::Middle { poll, sn, so, data }),
@@ -101,7 +111,10 @@ fn read_status<'a>(bytes: &'a [u8]) -> Result<Pdu<'a>, Fault>
     let more = has_bit(bytes[2], E1);
     check_entries(bytes, ack_sn, more)?;
     let rest = &bytes[3..size];
-    Ok(Pdu::Status { ack_sn, entries: Entries { rest, more } })
+    Ok(Pdu::Status {
+        ack_sn,
+        entries: Entries { rest, more },
+    })
 }
 
 impl<'a> Reader<'a> {

@@ -31,11 +31,11 @@ returns-in-Break-check-entries c =
     let small : byte bytes 1 < 256 = omega (arith, c .typed .bytes 1) in
     let sn = c .new-ack-sn .ensures ∙ ap (λ n. n % 4096) (c .word .ensures) ∙ sn-word bytes small in
     let p = err-from-errBy (c .from-residual .result) (c .from-residual .ensures .1) in
-    record
-    { value =
-        ap read-of (p .1 ∙ ap (λ fault. Err fault) (p .2))
-        ∙ sym (read-by bytes _ _ _ (c .if-size-lt3 .left) sn (c .has-bit-more .ensures) (c .in-Break-check-entries .ensures tt))
-    ; places = subst (Placed bytes) (sym (p .1)) tt
+    record {
+      value =
+          ap read-of (p .1 ∙ ap (λ fault. Err fault) (p .2))
+          ∙ sym (read-by bytes _ _ _ (c .if-size-lt3 .left) sn (c .has-bit-more .ensures) (c .in-Break-check-entries .ensures tt));
+      places = subst (Placed bytes) (sym (p .1)) tt;
     }
 
 pub returns : need.returns
@@ -43,11 +43,11 @@ returns c =
     let bytes = c .args .bytes .now in
     let small : byte bytes 1 < 256 = omega (arith, c .typed .bytes 1) in
     let sn = c .new-ack-sn .ensures ∙ ap (λ n. n % 4096) (c .word .ensures) ∙ sn-word bytes small in
-    record
-    { value =
-        sym
-        ( read-by bytes _ _ _ (c .if-size-lt3 .left) sn (c .has-bit-more .ensures) (c .in-Continue-check-entries .ensures tt)
-        ∙ ap (λ rest. Ok (status (sn-of (c .new-ack-sn .result)) (along listing (c .has-bit-more .result) 3 rest))) (sym (take-rest bytes 3))
-        )
-    ; places = tt
+    record {
+      value =
+          sym
+          (read-by bytes _ _ _ (c .if-size-lt3 .left) sn (c .has-bit-more .ensures) (c .in-Continue-check-entries .ensures tt)
+          ∙ ap (λ rest. Ok (status (sn-of (c .new-ack-sn .result)) (along listing (c .has-bit-more .result) 3 rest))) (sym (take-rest bytes 3))
+          );
+      places = tt;
     }

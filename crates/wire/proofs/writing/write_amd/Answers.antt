@@ -17,7 +17,7 @@ returns c =
     let start = c .pack-header-start .result .1 in
     let size : start ≡ length head = c .pack-header-start .ensures .1 in
     let part : take (start - 0) (c .pack-header-start .result .0) ≡ head =
-        ap (λ n. take n (c .pack-header-start .result .0)) (sub-zero start) ∙ c .pack-header-start .ensures .0 in
+    ap (λ n. take n (c .pack-header-start .result .0)) (sub-zero start) ∙ c .pack-header-start .ensures .0 in
     let first = c .put-bytes .ensures ∙ ap (λ xs. put-at 0 xs buffer) part in
     let second = c .put-bytes-2 .ensures ∙ ap (λ n. put-at n bytes (c .put-bytes .last .buffer)) size ∙ ap (put-at (length head) bytes) first in
     let fits : length head + length bytes ≤ length buffer = omega arith in

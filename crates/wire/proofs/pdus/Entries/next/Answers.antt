@@ -13,6 +13,6 @@ returns c =
     let rest = c .args .self .now .rest .now in
     let next = listing-found rest (found-of found) (sym (c .in-Continue-entry .ensures tt .value)) in
     sym
-    ( ap front (ap (λ more. along listing more 3 rest) (c .if-not-self .left) ∙ next)
+    (ap front (ap (λ more. along listing more 3 rest) (c .if-not-self .left) ∙ next)
     ∙ ap (λ left. (Some (entry-of (found .entry)), along listing (found .e1) 3 left)) (sym (take-rest rest (found .size)))
     )
