@@ -16,8 +16,7 @@ use Rattle.std.specs.declared.option.Option.the-variants.{Some, None}
 use Rattle.std.specs.declared.result.Result.{Result}
 use Rattle.std.specs.declared.result.Result.the-variants.{Ok, Err}
 use Rattle.wire.specs.declared.entries.Found.{Found}
-use Rattle.wire.specs.declared.numbers.PdcpCount.{PdcpCount}
-use Rattle.wire.specs.declared.numbers.RlcCount.{RlcCount}
+use Rattle.wire.specs.declared.counts.Count.{Count}
 use Rattle.wire.specs.declared.numbers.Sn.{Sn}
 use Rattle.wire.specs.declared.pdus.Entries.{Entries}
 use Rattle.wire.specs.declared.pdus.Entry.{Entry}
@@ -33,11 +32,8 @@ use Rattle.wire.specs.declared.writing.Segment.the-variants.{Whole, First, Mid
 abbrev pub sn-of : Sn → ℕ
 sn-of sn = sn .value % sn-modulus
 
-abbrev pub rlc-of : RlcCount → ℕ
-rlc-of count = count .value
-
-abbrev pub pdcp-of : PdcpCount → ℕ
-pdcp-of count = count .value
+abbrev pub count-of : {L : Type 0} → Count L → ℕ
+count-of count = count .value
 
 -- a count, where 32 bits hold it
 abbrev pub held : ℕ → Option ℕ

@@ -152,12 +152,3 @@ impl Draft {
         }
     }
 }
-
-impl Closed {
-    /// The report's length: it is the first `size` bytes of the buffer that it was closed in.
-    pub fn size(&self) -> usize
-        ensures { λ r. ⌜ r ≡ now (self .entry) .size ⌝ }
-    {
-        self.size
-    }
-}

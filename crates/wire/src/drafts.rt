@@ -1,5 +1,6 @@
 //! A status report as it is built: plain numbers, while its bytes are in a buffer that is lent for each step.
 
+ghost use mathlib.Core.Path.{_≡_};
 ghost use Prim.Native.Nat.{_+_, _<_, _≤_};
 
 /// A status report that takes entries.
@@ -18,4 +19,13 @@ pub struct Draft {
 #[derive(Drop)]
 pub struct Closed {
     pub(crate) size: usize,
+}
+
+impl Closed {
+    /// The report's length: it is the first `size` bytes of the buffer that it was closed in.
+    pub fn size(&self) -> usize
+        ensures { λ r. ⌜ r ≡ now (self .entry) .size ⌝ }
+    {
+        self.size
+    }
 }

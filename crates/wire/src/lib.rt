@@ -1,6 +1,7 @@
 //! PDUs as bytes: sequence numbers, a reader of received PDUs, and writers into lent buffers.
 
 mod bits;
+mod counts;
 mod drafting;
 mod drafts;
 mod entries;
@@ -9,11 +10,14 @@ mod pdus;
 mod reading;
 mod writing;
 
+pub use counts::Count;
+pub use counts::Pdcp;
+pub use counts::PdcpCount;
+pub use counts::Rlc;
+pub use counts::RlcCount;
 pub use drafting::NotClosed;
 pub use drafts::Closed;
 pub use drafts::Draft;
-pub use numbers::PdcpCount;
-pub use numbers::RlcCount;
 pub use numbers::Sn;
 pub use pdus::Entries;
 pub use pdus::Entry;
