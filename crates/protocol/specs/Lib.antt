@@ -6,5 +6,10 @@ pub mod Reading
 pub mod Writing
 pub mod Drafts
 pub mod Airs
+pub mod Searching
+pub mod Timers
+pub mod Settings
+pub mod Sending
+pub mod Receiving
 pub mod Laws
 pub mod Examples
