@@ -11,5 +11,6 @@ pub mod Timers
 pub mod Settings
 pub mod Sending
 pub mod Receiving
+pub mod Reordering
 pub mod Laws
 pub mod Examples
