@@ -5,6 +5,13 @@ use mathlib.Core.Path.{_≡_}
 use Prim.Native.Nat.{ℕ}
 use lib.ListN.{replicate}
 use Rattle.protocol.specs.Bytes.{Bytes}
+use Rattle.protocol.specs.CutInThree as cut-in-three
+use Rattle.protocol.specs.GapsReported as gaps-reported
+use Rattle.protocol.specs.LossyPool as lossy-pool
+use Rattle.protocol.specs.PacketsPassedOver as packets-passed-over
+use Rattle.protocol.specs.PollsDelayed as polls-delayed
+use Rattle.protocol.specs.PollsRepeated as polls-repeated
+use Rattle.protocol.specs.ReorderingEnds as reordering-ends
 use Rattle.protocol.specs.Numbers.{sn-modulus, count-from, stale, pdcp-count, passed}
 use Rattle.protocol.specs.Pdus.{Pdu, Amd, Segment, whole, first, middle, last, every, span, amd, status, encode}
 use Rattle.protocol.specs.Reading.{decode}
@@ -69,3 +76,9 @@ abbrev pub Worked-examples : Type 0
 Worked-examples =
     First-segment × Middle-segment × Last-segment × Whole-nack × Nack-to-the-end × Ack-past-the-modulus
     × Count-past-the-modulus × Last-byte
+
+-- Whole series of calls: what each answers, puts and collects, and every variable at the end.
+abbrev pub Worked-series : Type 0
+Worked-series =
+    cut-in-three.Plays × lossy-pool.Plays × polls-repeated.Plays × reordering-ends.Plays × polls-delayed.Plays
+    × packets-passed-over.Plays × gaps-reported.Plays

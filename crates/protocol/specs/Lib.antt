@@ -12,5 +12,14 @@ pub mod Settings
 pub mod Sending
 pub mod Receiving
 pub mod Reordering
+pub mod Links
+pub mod Series
+pub mod CutInThree
+pub mod LossyPool
+pub mod PollsRepeated
+pub mod ReorderingEnds
+pub mod PollsDelayed
+pub mod PacketsPassedOver
+pub mod GapsReported
 pub mod Laws
 pub mod Examples

@@ -50,16 +50,16 @@ nothing-held = record { held = λ i. None; known-end = None }
 
 abbrev pub new-far : Far
 new-far =
-    record
-    { RX-Next = 0
-    ; RX-Next-Highest = 0
-    ; RX-Highest-Status = 0
-    ; RX-Next-Status-Trigger = 0
-    ; sdu = λ x. nothing-held
-    ; poll = λ x. false
-    ; t-Reassembly = stopped
-    ; reporting = quiet
-    ; t-StatusProhibit = stopped
+    record {
+      RX-Next = 0;
+      RX-Next-Highest = 0;
+      RX-Highest-Status = 0;
+      RX-Next-Status-Trigger = 0;
+      sdu = λ x. nothing-held;
+      poll = λ x. false;
+      t-Reassembly = stopped;
+      reporting = quiet;
+      t-StatusProhibit = stopped;
     }
 
 abbrev pub holds : Partial → ℕ → Bool
@@ -130,20 +130,29 @@ clashes p a =
 -- bytes that are held stay
 abbrev pub received : Amd → Partial → Partial
 received a p =
-    record
-    { held = λ i.
-        cond (holds p i || (ltb i (offset (a .segment)) || leb (data-end a) i)) (p .held i) (Some (getD (a .payload) (i - offset (a .segment)) 0))
-    ; known-end = cond (marks-end (a .segment)) (Some (data-end a)) (p .known-end)
+    record {
+      held = λ i.
+          cond (holds p i || (ltb i (offset (a .segment)) || leb (data-end a) i)) (p .held i) (Some (getD (a .payload) (i - offset (a .segment)) 0));
+      known-end = cond (marks-end (a .segment)) (Some (data-end a)) (p .known-end);
     }
 
+abbrev pub byte-of : Option ℕ → ℕ
+byte-of (Some b) = b
+byte-of None = 0
+
+-- n bytes from byte i on
+abbrev pub bytes-from : Partial → (n i : ℕ) → Bytes
+bytes-from p zero i = []
+bytes-from p (suc n) i = byte-of (p .held i) ∷ bytes-from p n (suc i)
+
+-- the bytes up to the known end
+abbrev pub bytes-to : Partial → Option ℕ → Bytes
+bytes-to p None = []
+bytes-to p (Some n) = bytes-from p n 0
+
 -- the bytes of a complete SDU
-abbrev pub collected-bytes : Partial → (n from : ℕ) → Bytes
-collected-bytes p zero from = []
-collected-bytes p (suc n) from = value (p .held from) ∷ collected-bytes p n (suc from)
-  where
-    value : Option ℕ → ℕ
-    value (Some b) = b
-    value None = 0
+abbrev pub sdu-bytes : Partial → Bytes
+sdu-bytes p = bytes-to p (p .known-end)
 
 -- the reporting machine ---------------------------------------------------------------------------------------------
 
@@ -173,31 +182,31 @@ triggered-if b r = cond b (triggered r) r
 
 abbrev pub with-reporting : Far → Reporting → Far
 with-reporting f reporting =
-    record
-    { RX-Next = f .RX-Next
-    ; RX-Next-Highest = f .RX-Next-Highest
-    ; RX-Highest-Status = f .RX-Highest-Status
-    ; RX-Next-Status-Trigger = f .RX-Next-Status-Trigger
-    ; sdu = f .sdu
-    ; poll = f .poll
-    ; t-Reassembly = f .t-Reassembly
-    ; reporting = reporting
-    ; t-StatusProhibit = f .t-StatusProhibit
+    record {
+      RX-Next = f .RX-Next;
+      RX-Next-Highest = f .RX-Next-Highest;
+      RX-Highest-Status = f .RX-Highest-Status;
+      RX-Next-Status-Trigger = f .RX-Next-Status-Trigger;
+      sdu = f .sdu;
+      poll = f .poll;
+      t-Reassembly = f .t-Reassembly;
+      reporting = reporting;
+      t-StatusProhibit = f .t-StatusProhibit;
     }
 
 -- 1: the new bytes are kept, and the count is seen
 abbrev pub kept : ℕ → Amd → Far → Far
 kept x a f =
-    record
-    { RX-Next = f .RX-Next
-    ; RX-Next-Highest = max (f .RX-Next-Highest) (x + 1)
-    ; RX-Highest-Status = f .RX-Highest-Status
-    ; RX-Next-Status-Trigger = f .RX-Next-Status-Trigger
-    ; sdu = update (f .sdu) x (received a (f .sdu x))
-    ; poll = update (f .poll) x (f .poll x || a .poll)
-    ; t-Reassembly = f .t-Reassembly
-    ; reporting = f .reporting
-    ; t-StatusProhibit = f .t-StatusProhibit
+    record {
+      RX-Next = f .RX-Next;
+      RX-Next-Highest = max (f .RX-Next-Highest) (x + 1);
+      RX-Highest-Status = f .RX-Highest-Status;
+      RX-Next-Status-Trigger = f .RX-Next-Status-Trigger;
+      sdu = update (f .sdu) x (received a (f .sdu x));
+      poll = update (f .poll) x (f .poll x || a .poll);
+      t-Reassembly = f .t-Reassembly;
+      reporting = f .reporting;
+      t-StatusProhibit = f .t-StatusProhibit;
     }
 
 -- 2: where the count x is complete, RX-Highest-Status and RX-Next move past it
@@ -206,30 +215,30 @@ moved-past x f variable = cond (complete (f .sdu x) && eqb variable x) (incomple
 
 abbrev pub advanced : ℕ → Far → Far
 advanced x f =
-    record
-    { RX-Next = moved-past x f (f .RX-Next)
-    ; RX-Next-Highest = f .RX-Next-Highest
-    ; RX-Highest-Status = moved-past x f (f .RX-Highest-Status)
-    ; RX-Next-Status-Trigger = f .RX-Next-Status-Trigger
-    ; sdu = λ y. cond (ltb y (moved-past x f (f .RX-Next))) complete-sdu (f .sdu y)
-    ; poll = f .poll
-    ; t-Reassembly = f .t-Reassembly
-    ; reporting = f .reporting
-    ; t-StatusProhibit = f .t-StatusProhibit
+    record {
+      RX-Next = moved-past x f (f .RX-Next);
+      RX-Next-Highest = f .RX-Next-Highest;
+      RX-Highest-Status = moved-past x f (f .RX-Highest-Status);
+      RX-Next-Status-Trigger = f .RX-Next-Status-Trigger;
+      sdu = λ y. cond (ltb y (moved-past x f (f .RX-Next))) complete-sdu (f .sdu y);
+      poll = f .poll;
+      t-Reassembly = f .t-Reassembly;
+      reporting = f .reporting;
+      t-StatusProhibit = f .t-StatusProhibit;
     }
 
 abbrev pub with-reassembly : Far → ℕ → Timer → Far
 with-reassembly f trigger timer =
-    record
-    { RX-Next = f .RX-Next
-    ; RX-Next-Highest = f .RX-Next-Highest
-    ; RX-Highest-Status = f .RX-Highest-Status
-    ; RX-Next-Status-Trigger = trigger
-    ; sdu = f .sdu
-    ; poll = f .poll
-    ; t-Reassembly = timer
-    ; reporting = f .reporting
-    ; t-StatusProhibit = f .t-StatusProhibit
+    record {
+      RX-Next = f .RX-Next;
+      RX-Next-Highest = f .RX-Next-Highest;
+      RX-Highest-Status = f .RX-Highest-Status;
+      RX-Next-Status-Trigger = trigger;
+      sdu = f .sdu;
+      poll = f .poll;
+      t-Reassembly = timer;
+      reporting = f .reporting;
+      t-StatusProhibit = f .t-StatusProhibit;
     }
 
 -- 3: t-Reassembly stops once nothing below the trigger is missing
@@ -255,16 +264,16 @@ answers-poll low f = ltb (seek (f .poll) (f .RX-Highest-Status - low) low) (f .R
 
 abbrev pub answering : ℕ → Far → Far
 answering low f =
-    record
-    { RX-Next = f .RX-Next
-    ; RX-Next-Highest = f .RX-Next-Highest
-    ; RX-Highest-Status = f .RX-Highest-Status
-    ; RX-Next-Status-Trigger = f .RX-Next-Status-Trigger
-    ; sdu = f .sdu
-    ; poll = λ x. not (ltb x (f .RX-Highest-Status)) && f .poll x
-    ; t-Reassembly = f .t-Reassembly
-    ; reporting = triggered-if (answers-poll low f) (f .reporting)
-    ; t-StatusProhibit = f .t-StatusProhibit
+    record {
+      RX-Next = f .RX-Next;
+      RX-Next-Highest = f .RX-Next-Highest;
+      RX-Highest-Status = f .RX-Highest-Status;
+      RX-Next-Status-Trigger = f .RX-Next-Status-Trigger;
+      sdu = f .sdu;
+      poll = λ x. not (ltb x (f .RX-Highest-Status)) && f .poll x;
+      t-Reassembly = f .t-Reassembly;
+      reporting = triggered-if (answers-poll low f) (f .reporting);
+      t-StatusProhibit = f .t-StatusProhibit;
     }
 
 -- all steps
@@ -346,32 +355,32 @@ report f grant = report-from f (f .RX-Highest-Status - f .RX-Next) (f .RX-Next) 
 -- the far end after it sent one
 abbrev pub reported : Settings → Far → Far
 reported s f =
-    record
-    { RX-Next = f .RX-Next
-    ; RX-Next-Highest = f .RX-Next-Highest
-    ; RX-Highest-Status = f .RX-Highest-Status
-    ; RX-Next-Status-Trigger = f .RX-Next-Status-Trigger
-    ; sdu = f .sdu
-    ; poll = f .poll
-    ; t-Reassembly = f .t-Reassembly
-    ; reporting = barred
-    ; t-StatusProhibit = running (s .t-StatusProhibit)
+    record {
+      RX-Next = f .RX-Next;
+      RX-Next-Highest = f .RX-Next-Highest;
+      RX-Highest-Status = f .RX-Highest-Status;
+      RX-Next-Status-Trigger = f .RX-Next-Status-Trigger;
+      sdu = f .sdu;
+      poll = f .poll;
+      t-Reassembly = f .t-Reassembly;
+      reporting = barred;
+      t-StatusProhibit = running (s .t-StatusProhibit);
     }
 
 -- a Tick ------------------------------------------------------------------------------------------------------------
 
 abbrev pub with-highest-status : Far → ℕ → Far
 with-highest-status f highest =
-    record
-    { RX-Next = f .RX-Next
-    ; RX-Next-Highest = f .RX-Next-Highest
-    ; RX-Highest-Status = highest
-    ; RX-Next-Status-Trigger = f .RX-Next-Status-Trigger
-    ; sdu = f .sdu
-    ; poll = f .poll
-    ; t-Reassembly = stopped
-    ; reporting = f .reporting
-    ; t-StatusProhibit = f .t-StatusProhibit
+    record {
+      RX-Next = f .RX-Next;
+      RX-Next-Highest = f .RX-Next-Highest;
+      RX-Highest-Status = highest;
+      RX-Next-Status-Trigger = f .RX-Next-Status-Trigger;
+      sdu = f .sdu;
+      poll = f .poll;
+      t-Reassembly = stopped;
+      reporting = f .reporting;
+      t-StatusProhibit = f .t-StatusProhibit;
     }
 
 -- t-Reassembly has run out: what is missing below the trigger is reported, and what lies beyond is waited for
@@ -387,16 +396,16 @@ tick-reassembly s f =
 
 abbrev pub tick-prohibit : Far → Far
 tick-prohibit f =
-    record
-    { RX-Next = f .RX-Next
-    ; RX-Next-Highest = f .RX-Next-Highest
-    ; RX-Highest-Status = f .RX-Highest-Status
-    ; RX-Next-Status-Trigger = f .RX-Next-Status-Trigger
-    ; sdu = f .sdu
-    ; poll = f .poll
-    ; t-Reassembly = f .t-Reassembly
-    ; reporting = cond (runs-out (f .t-StatusProhibit)) (unbarred (f .reporting)) (f .reporting)
-    ; t-StatusProhibit = ticked (f .t-StatusProhibit)
+    record {
+      RX-Next = f .RX-Next;
+      RX-Next-Highest = f .RX-Next-Highest;
+      RX-Highest-Status = f .RX-Highest-Status;
+      RX-Next-Status-Trigger = f .RX-Next-Status-Trigger;
+      sdu = f .sdu;
+      poll = f .poll;
+      t-Reassembly = f .t-Reassembly;
+      reporting = cond (runs-out (f .t-StatusProhibit)) (unbarred (f .reporting)) (f .reporting);
+      t-StatusProhibit = ticked (f .t-StatusProhibit);
     }
 
 abbrev pub tick-far : Settings → Far → Far

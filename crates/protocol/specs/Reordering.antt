@@ -60,35 +60,35 @@ unstored-from p count = seek (λ c. not (is-stored (p .store) c)) (p .RX-NEXT - 
 abbrev pub reordering : Settings → Pdcp → Pdcp
 reordering s p =
     cond (not (runs (p .t-Reordering)) && ltb (p .RX-DELIV) (p .RX-NEXT))
-    (record
-    { RX-DELIV = p .RX-DELIV
-    ; RX-NEXT = p .RX-NEXT
-    ; RX-REORD = p .RX-NEXT
-    ; store = p .store
-    ; t-Reordering = started (s .t-Reordering)
+    (record {
+      RX-DELIV = p .RX-DELIV;
+      RX-NEXT = p .RX-NEXT;
+      RX-REORD = p .RX-NEXT;
+      store = p .store;
+      t-Reordering = started (s .t-Reordering);
     })
     p
 
 -- a packet stored, and RX-NEXT past it
 abbrev pub storing : ℕ → Bytes → Pdcp → Pdcp
 storing count packet p =
-    record
-    { RX-DELIV = p .RX-DELIV
-    ; RX-NEXT = max (p .RX-NEXT) (count + 1)
-    ; RX-REORD = p .RX-REORD
-    ; store = insert (record { count = count; packet = packet }) (p .store)
-    ; t-Reordering = p .t-Reordering
+    record {
+      RX-DELIV = p .RX-DELIV;
+      RX-NEXT = max (p .RX-NEXT) (count + 1);
+      RX-REORD = p .RX-REORD;
+      store = insert (record { count = count; packet = packet }) (p .store);
+      t-Reordering = p .t-Reordering;
     }
 
 -- RX-DELIV moved; t-Reordering stops once it has passed RX-REORD
 abbrev pub delivering : ℕ → Pdcp → Pdcp
 delivering deliv p =
-    record
-    { RX-DELIV = deliv
-    ; RX-NEXT = p .RX-NEXT
-    ; RX-REORD = p .RX-REORD
-    ; store = p .store
-    ; t-Reordering = stopped-if (leb (p .RX-REORD) deliv) (p .t-Reordering)
+    record {
+      RX-DELIV = deliv;
+      RX-NEXT = p .RX-NEXT;
+      RX-REORD = p .RX-REORD;
+      store = p .store;
+      t-Reordering = stopped-if (leb (p .RX-REORD) deliv) (p .t-Reordering);
     }
 
 -- a packet that is not discarded
@@ -126,17 +126,17 @@ abbrev pub tick-pdcp : Settings → Pdcp → Pdcp
 tick-pdcp s p =
     cond (runs-out (p .t-Reordering))
     (reordering s
-    (record
-    { RX-DELIV = unstored-from p (p .RX-REORD)
-    ; RX-NEXT = p .RX-NEXT
-    ; RX-REORD = p .RX-REORD
-    ; store = p .store
-    ; t-Reordering = stopped
+    (record {
+      RX-DELIV = unstored-from p (p .RX-REORD);
+      RX-NEXT = p .RX-NEXT;
+      RX-REORD = p .RX-REORD;
+      store = p .store;
+      t-Reordering = stopped;
     }))
-    (record
-    { RX-DELIV = p .RX-DELIV
-    ; RX-NEXT = p .RX-NEXT
-    ; RX-REORD = p .RX-REORD
-    ; store = p .store
-    ; t-Reordering = ticked (p .t-Reordering)
+    (record {
+      RX-DELIV = p .RX-DELIV;
+      RX-NEXT = p .RX-NEXT;
+      RX-REORD = p .RX-REORD;
+      store = p .store;
+      t-Reordering = ticked (p .t-Reordering);
     })

@@ -62,13 +62,13 @@ none-yet = record { bytes = []; mark = λ i. unsent; acknowledged = false; RETX-
 
 abbrev pub new-near : Near
 new-near =
-    record
-    { TX-NEXT = 0
-    ; TX-Next = 0
-    ; TX-Next-Ack = 0
-    ; sdu = λ x. none-yet
-    ; polling = record { POLL-SN = 0; PDU-WITHOUT-POLL = 0; owed = false; t-PollRetransmit = stopped }
-    ; failed = false
+    record {
+      TX-NEXT = 0;
+      TX-Next = 0;
+      TX-Next-Ack = 0;
+      sdu = λ x. none-yet;
+      polling = record { POLL-SN = 0; PDU-WITHOUT-POLL = 0; owed = false; t-PollRetransmit = stopped };
+      failed = false;
     }
 
 abbrev pub is-unsent : Mark → Bool
@@ -113,13 +113,13 @@ unsent-sdu bytes = record { bytes = bytes; mark = λ i. unsent; acknowledged = f
 -- the packet becomes the next SDU, under the next COUNT
 abbrev pub given : Bytes → Near → Near
 given packet n =
-    record
-    { TX-NEXT = n .TX-NEXT + 1
-    ; TX-Next = n .TX-Next + 1
-    ; TX-Next-Ack = n .TX-Next-Ack
-    ; sdu = update (n .sdu) (n .TX-Next) (unsent-sdu (encode-pdcp (n .TX-NEXT % sn-modulus) packet))
-    ; polling = n .polling
-    ; failed = n .failed
+    record {
+      TX-NEXT = n .TX-NEXT + 1;
+      TX-Next = n .TX-Next + 1;
+      TX-Next-Ack = n .TX-Next-Ack;
+      sdu = update (n .sdu) (n .TX-Next) (unsent-sdu (encode-pdcp (n .TX-NEXT % sn-modulus) packet));
+      polling = n .polling;
+      failed = n .failed;
     }
 
 -- spending a grant --------------------------------------------------------------------------------------------------
@@ -137,11 +137,11 @@ run-from test s from grant = min (byte-from (λ m. not (test m)) s from - from) 
 
 abbrev pub run-of : Bool → (Mark → Bool) → Near → ℕ → ℕ → Run
 run-of new test n grant x =
-    record
-    { count = x
-    ; from = byte-from test (n .sdu x) 0
-    ; size = run-from test (n .sdu x) (byte-from test (n .sdu x) 0) grant
-    ; new = new
+    record {
+      count = x;
+      from = byte-from test (n .sdu x) 0;
+      size = run-from test (n .sdu x) (byte-from test (n .sdu x) 0) grant;
+      new = new;
     }
 
 -- What a grant serves: the lowest count with a pending byte, and failing that the lowest with an unsent one.
@@ -157,33 +157,33 @@ served n grant =
 -- the bytes of a run become sent
 abbrev pub sent-run : Run → Sdu → Sdu
 sent-run run s =
-    record
-    { bytes = s .bytes
-    ; mark = λ i. cond (leb (run .from) i && ltb i (run .from + run .size)) sent (s .mark i)
-    ; acknowledged = s .acknowledged
-    ; RETX-COUNT = s .RETX-COUNT
+    record {
+      bytes = s .bytes;
+      mark = λ i. cond (leb (run .from) i && ltb i (run .from + run .size)) sent (s .mark i);
+      acknowledged = s .acknowledged;
+      RETX-COUNT = s .RETX-COUNT;
     }
 
 abbrev pub with-sdus : Near → (ℕ → Sdu) → Near
 with-sdus n sdu =
-    record
-    { TX-NEXT = n .TX-NEXT
-    ; TX-Next = n .TX-Next
-    ; TX-Next-Ack = n .TX-Next-Ack
-    ; sdu = sdu
-    ; polling = n .polling
-    ; failed = n .failed
+    record {
+      TX-NEXT = n .TX-NEXT;
+      TX-Next = n .TX-Next;
+      TX-Next-Ack = n .TX-Next-Ack;
+      sdu = sdu;
+      polling = n .polling;
+      failed = n .failed;
     }
 
 abbrev pub with-polling : Near → Polling → Near
 with-polling n polling =
-    record
-    { TX-NEXT = n .TX-NEXT
-    ; TX-Next = n .TX-Next
-    ; TX-Next-Ack = n .TX-Next-Ack
-    ; sdu = n .sdu
-    ; polling = polling
-    ; failed = n .failed
+    record {
+      TX-NEXT = n .TX-NEXT;
+      TX-Next = n .TX-Next;
+      TX-Next-Ack = n .TX-Next-Ack;
+      sdu = n .sdu;
+      polling = polling;
+      failed = n .failed;
     }
 
 abbrev pub marked : Run → Near → Near
@@ -208,17 +208,17 @@ polls s run n =
 abbrev pub polled : Settings → Run → Near → Polling
 polled s run n =
     cond (polls s run n)
-    (record
-    { POLL-SN = top (marked run n) - 1
-    ; PDU-WITHOUT-POLL = 0
-    ; owed = false
-    ; t-PollRetransmit = running (s .t-PollRetransmit)
+    (record {
+      POLL-SN = top (marked run n) - 1;
+      PDU-WITHOUT-POLL = 0;
+      owed = false;
+      t-PollRetransmit = running (s .t-PollRetransmit);
     })
-    (record
-    { POLL-SN = n .polling .POLL-SN
-    ; PDU-WITHOUT-POLL = counted (s .pollPDU) (run .new) (n .polling .PDU-WITHOUT-POLL)
-    ; owed = n .polling .owed
-    ; t-PollRetransmit = n .polling .t-PollRetransmit
+    (record {
+      POLL-SN = n .polling .POLL-SN;
+      PDU-WITHOUT-POLL = counted (s .pollPDU) (run .new) (n .polling .PDU-WITHOUT-POLL);
+      owed = n .polling .owed;
+      t-PollRetransmit = n .polling .t-PollRetransmit;
     })
 
 -- the near end after the run was sent
@@ -232,11 +232,11 @@ segment-at from size sdu-length =
 -- the PDU that carries a run
 abbrev pub amd-of-run : Settings → Run → Near → Amd
 amd-of-run s run n =
-    record
-    { poll = polls s run n
-    ; sn = run .count % sn-modulus
-    ; segment = segment-at (run .from) (run .size) (length (n .sdu (run .count) .bytes))
-    ; payload = take (run .size) (drop (run .from) (n .sdu (run .count) .bytes))
+    record {
+      poll = polls s run n;
+      sn = run .count % sn-modulus;
+      segment = segment-at (run .from) (run .size) (length (n .sdu (run .count) .bytes));
+      payload = take (run .size) (drop (run .from) (n .sdu (run .count) .bytes));
     }
 
 -- considering bytes for retransmission ------------------------------------------------------------------------------
@@ -259,11 +259,11 @@ considered-count (Some n) newly = cond newly (Some (n + 1)) (Some n)
 -- the named bytes of an SDU, considered together
 abbrev pub considered : (ℕ → Bool) → Sdu → Sdu
 considered named s =
-    record
-    { bytes = s .bytes
-    ; mark = λ i. repend (named i) (s .mark i)
-    ; acknowledged = s .acknowledged
-    ; RETX-COUNT = considered-count (s .RETX-COUNT) (newly-pending named s)
+    record {
+      bytes = s .bytes;
+      mark = λ i. repend (named i) (s .mark i);
+      acknowledged = s .acknowledged;
+      RETX-COUNT = considered-count (s .RETX-COUNT) (newly-pending named s);
     }
 
 abbrev pub exhausted : ℕ → Option ℕ → Bool
@@ -277,13 +277,13 @@ fails s n =
 
 abbrev pub failed-if : Settings → Near → Near
 failed-if s n =
-    record
-    { TX-NEXT = n .TX-NEXT
-    ; TX-Next = n .TX-Next
-    ; TX-Next-Ack = n .TX-Next-Ack
-    ; sdu = n .sdu
-    ; polling = n .polling
-    ; failed = n .failed || fails s n
+    record {
+      TX-NEXT = n .TX-NEXT;
+      TX-Next = n .TX-Next;
+      TX-Next-Ack = n .TX-Next-Ack;
+      sdu = n .sdu;
+      polling = n .polling;
+      failed = n .failed || fails s n;
     }
 
 -- reading a status report -------------------------------------------------------------------------------------------
@@ -314,11 +314,11 @@ considered-in n es x =
 -- nothing of it is pending any more
 abbrev pub acknowledge : Sdu → Sdu
 acknowledge s =
-    record
-    { bytes = s .bytes
-    ; mark = λ i. cond (is-pending (s .mark i)) sent (s .mark i)
-    ; acknowledged = true
-    ; RETX-COUNT = s .RETX-COUNT
+    record {
+      bytes = s .bytes;
+      mark = λ i. cond (is-pending (s .mark i)) sent (s .mark i);
+      acknowledged = true;
+      RETX-COUNT = s .RETX-COUNT;
     }
 
 -- An SDU below the ACK count that no entry names is acknowledged, if all of it was sent.
@@ -332,23 +332,23 @@ advanced n = moved (seek (λ x. not (n .sdu x .acknowledged)) (n .TX-Next - n .T
   where
     moved : ℕ → Near
     moved to =
-        record
-        { TX-NEXT = n .TX-NEXT
-        ; TX-Next = n .TX-Next
-        ; TX-Next-Ack = to
-        ; sdu = λ x. cond (ltb x to) gone (n .sdu x)
-        ; polling = n .polling
-        ; failed = n .failed
+        record {
+          TX-NEXT = n .TX-NEXT;
+          TX-Next = n .TX-Next;
+          TX-Next-Ack = to;
+          sdu = λ x. cond (ltb x to) gone (n .sdu x);
+          polling = n .polling;
+          failed = n .failed;
         }
 
 -- t-PollRetransmit stops if the report answers the last poll
 abbrev pub answered : ℕ → Polling → Polling
 answered ack p =
-    record
-    { POLL-SN = p .POLL-SN
-    ; PDU-WITHOUT-POLL = p .PDU-WITHOUT-POLL
-    ; owed = p .owed
-    ; t-PollRetransmit = stopped-if (ltb (p .POLL-SN) ack) (p .t-PollRetransmit)
+    record {
+      POLL-SN = p .POLL-SN;
+      PDU-WITHOUT-POLL = p .PDU-WITHOUT-POLL;
+      owed = p .owed;
+      t-PollRetransmit = stopped-if (ltb (p .POLL-SN) ack) (p .t-PollRetransmit);
     }
 
 -- a report that is not stale
@@ -377,11 +377,11 @@ considered-all (Some x) n = with-sdus n (update (n .sdu) x (considered (λ i. tr
 abbrev pub owing : Near → Near
 owing n =
     with-polling n
-    (record
-    { POLL-SN = n .polling .POLL-SN
-    ; PDU-WITHOUT-POLL = n .polling .PDU-WITHOUT-POLL
-    ; owed = true
-    ; t-PollRetransmit = stopped
+    (record {
+      POLL-SN = n .polling .POLL-SN;
+      PDU-WITHOUT-POLL = n .polling .PDU-WITHOUT-POLL;
+      owed = true;
+      t-PollRetransmit = stopped;
     })
 
 -- When t-PollRetransmit runs out a poll is owed, and something to send it with.
@@ -390,9 +390,9 @@ tick-near s n =
     cond (runs-out (n .polling .t-PollRetransmit))
     (cond (nothing-to-send n) (failed-if s (considered-all (highest-sent n) (owing n))) (owing n))
     (with-polling n
-    (record
-    { POLL-SN = n .polling .POLL-SN
-    ; PDU-WITHOUT-POLL = n .polling .PDU-WITHOUT-POLL
-    ; owed = n .polling .owed
-    ; t-PollRetransmit = ticked (n .polling .t-PollRetransmit)
+    (record {
+      POLL-SN = n .polling .POLL-SN;
+      PDU-WITHOUT-POLL = n .polling .PDU-WITHOUT-POLL;
+      owed = n .polling .owed;
+      t-PollRetransmit = ticked (n .polling .t-PollRetransmit);
     }))

@@ -17,4 +17,5 @@ pub use laws::reserved_bits_are_not_read;
 pub use laws::sn_stands_for_one_count;
 pub use laws::sn_stands_for_one_pdcp_count;
 pub use laws::worked_examples;
+pub use laws::worked_series;
 pub use laws::written_pdu_reads_back;
