@@ -1,2 +1,3 @@
+mod Listing
 mod Spelling
 mod Taken

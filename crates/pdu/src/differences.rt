@@ -1,6 +1,9 @@
 //! Comparing bytes.
 
-ghost use Rattle.pdu.specs.Compared.{Compares};
+ghost use lib.ListN.{length};
+ghost use mathlib.Core.Path.{_≡_};
+ghost use Rattle.pdu.specs.Compared.{All, Compares, Real};
+ghost use Rattle.std.specs.Of.Vec.{vec-items};
 ghost use Rattle.std.specs.Vec.{made};
 use std::alloc::AllocError;
 use std::alloc::Global;
@@ -20,10 +23,14 @@ pub(crate) enum Comparison {
     Differs(Vec<Difference>),
 }
 
-fn differences(heap: Global, written: &[u8], read: &[u8]) -> Result<Vec<Difference>, AllocError> {
+/// The bytes in which two texts of one length differ.
+fn differences(heap: Global, written: &[u8], read: &[u8]) -> Result<Vec<Difference>, AllocError>
+    requires { ⌜ length (now written) ≡ length (now read) ⌝ }
+    ensures { λ r. ⌜ made r (λ v. All (Real (now (written .entry)) (now (read .entry))) (vec-items v)) ⌝ }
+{
     let mut list = Vec::new(heap);
-    for (place, (ours, theirs)) in written.iter().zip(read.iter()).enumerate() {
-        let bits = *ours ^ *theirs;
+    for (place, ours) in written.iter().enumerate() {
+        let bits = *ours ^ read[place];
         if bits != 0 {
             list.push(Difference { place, bits })?;
         }

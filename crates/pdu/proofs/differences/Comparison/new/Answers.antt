@@ -8,5 +8,8 @@ pub returns-then-eq : need.returns-then-eq
 returns-then-eq c = matches-decides _ _ _ (c .eq .ensures) .0 (c .if-eq .taken)
 
 pub returns : need.returns
-returns c =
-    (search needs, λ same. false≢true (sym (c .if-eq .left) ∙ matches-decides _ _ _ (c .eq .ensures) .1 same))
+returns c = (
+  search needs,
+  (λ same. false≢true (sym (c .if-eq .left) ∙ matches-decides _ _ _ (c .eq .ensures) .1 same)),
+  c .in-Continue-differences .ensures tt,
+)
