@@ -13,6 +13,7 @@ pub mod Sending
 pub mod Receiving
 pub mod Reordering
 pub mod Links
+pub mod Runs
 pub mod Series
 pub mod CutInThree
 pub mod LossyPool
