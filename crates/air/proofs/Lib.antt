@@ -1,1 +1,4 @@
 pub mod Emptied
+pub mod Notes
+pub mod Fronts
+pub mod Pushes

@@ -1,1 +1,4 @@
 pub mod Meaning
+pub mod Queues
+pub mod Waits
+pub mod Kept
