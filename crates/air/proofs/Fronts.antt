@@ -9,9 +9,12 @@ use Rattle.air.specs.Queues.{Each, Pairs, Stored, Apart, Carried, Older, capac
 use Rattle.air.specs.Waits.{held-entries, waits}
 use Rattle.air.specs.declared.entries.Entry.{Entry}
 use Rattle.air.specs.declared.queues.Queue.{Queue}
-use Rattle.protocol.specs.Airs.{age-limit}
+use Rattle.protocol.specs.Airs.{Waiting, age-limit}
 use Rattle.protocol.specs.Bytes.{Bytes}
-use Rattle.std.proofs.shelf.Lists.{length-map, length-take-le, getD-take, take-at}
+use Rattle.std.proofs.shelf.Lists.{length-map, length-take-le, getD-map, getD-take, take-at}
+use Rattle.std.proofs.shelf.Maps.{nth-getD}
+use Rattle.std.specs.declared.option.Option.the-variants.{Some}
+use Rattle.std.specs.shelf.Maps.{nth}
 
 pub length-held : (q : Queue) → length (held-entries q) ≡ q .held
 length-held q = length-take-le (q .held) (q .entries) (omega (arith, q .full .0, q .full .1))
@@ -21,6 +24,12 @@ length-waits q = length-map (held-entries q) (waiting-at (q .store)) ∙ length-
 
 pub held-at : (q : Queue) (i : ℕ) → i < q .held → getD (held-entries q) i no-entry ≡ getD (q .entries) i no-entry
 held-at q i lt = getD-take (q .held) (q .entries) i no-entry lt
+
+pub nth-waits : (q : Queue) (k : ℕ) → k < q .held → nth (waits q) k ≡ Some (waiting-at (q .store) (getD (q .entries) k no-entry))
+nth-waits q k lt =
+    let none : Waiting = waiting-at (q .store) no-entry in
+    nth-getD (waits q) k none (omega (arith, length-waits q))
+    ∙ ap Some (getD-map (waiting-at (q .store)) (held-entries q) k no-entry none (omega (arith, length-held q)) ∙ ap (waiting-at (q .store)) (held-at q k lt))
 
 -- the first n entries raised
 pub take-raised : (q : Queue) (n : ℕ) → n ≡ q .held → take (q .held) (map raised (take n (q .entries)) ++ drop n (q .entries)) ≡ map raised (held-entries q)

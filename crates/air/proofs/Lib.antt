@@ -2,3 +2,4 @@ pub mod Emptied
 pub mod Notes
 pub mod Fronts
 pub mod Pushes
+pub mod Lets

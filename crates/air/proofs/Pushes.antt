@@ -93,11 +93,12 @@ module _ (q : Queue) (pdu : Bytes) (room : q .held < capacity) (carried : (1 ≤
 -- the newest 8 -----------------------------------------------------------------------------------------------------
 
 pub newest-short : (ws : List Waiting) → length ws ≤ capacity → newest ws ≡ ws
-newest-short ws le = ap (λ n. drop n ws) (omega arith)
+newest-short ws le = let none : length ws - capacity ≡ 0 = omega arith in ap (λ n. drop n ws) none
 
 pub newest-room : (ws : List Waiting) (w : Waiting) → length ws < capacity → ws ++ w ∷ [] ≡ newest (ws ++ w ∷ [])
 newest-room ws w lt = sym (newest-short (ws ++ w ∷ []) (omega (arith, length-push ws w)))
 
 pub newest-full : (ws : List Waiting) (w : Waiting) → length ws ≡ capacity → removed ws 0 ++ w ∷ [] ≡ newest (ws ++ w ∷ [])
 newest-full ws w full =
-    sym (ap (λ n. drop n (ws ++ w ∷ [])) (omega (arith, length-push ws w)) ∙ drop-append-le 1 ws (w ∷ []) (omega arith))
+    let one : length (ws ++ w ∷ []) - capacity ≡ 1 = omega (arith, length-push ws w) in
+    sym (ap (λ n. drop n (ws ++ w ∷ [])) one ∙ drop-append-le 1 ws (w ∷ []) (omega arith))

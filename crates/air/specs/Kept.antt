@@ -1,15 +1,17 @@
 -- What pipe and pool keep: at most 8 PDUs, of which a Put into a full one loses the oldest.
 use mathlib.Core.Bool.{Bool, cond}
-use mathlib.Core.List.{List, [], _∷_}
-use Prim.Native.Nat.{ℕ, zero, suc, _-_, _/_, _%_}
+use mathlib.Core.List.{List}
+use Prim.Native.Nat.{ℕ, _-_, _/_, _%_}
 use lib.Dec.{eqb}
 use lib.ListN.{length, drop}
 use Rattle.air.specs.Queues.{capacity}
 use Rattle.protocol.specs.Airs.{Waiting, after-put, takes}
 use Rattle.protocol.specs.Bytes.{Bytes}
 use Rattle.std.specs.declared.option.Option.{Option}
-use Rattle.std.specs.declared.option.Option.the-variants.{Some, None}
+use Rattle.std.specs.declared.option.Option.the-variants.{None}
+use Rattle.std.specs.Options.{mapped}
 use Rattle.std.specs.shelf.Lists.{removed}
+use Rattle.std.specs.shelf.Maps.{nth}
 
 -- the last `capacity` of a list
 abbrev pub newest : List Waiting → List Waiting
@@ -20,9 +22,7 @@ put-in pdu waiting = newest (after-put pdu waiting)
 
 -- the k-th PDU from the oldest, counted from 0
 abbrev pub pdu-at : ℕ → List Waiting → Option Bytes
-pdu-at k [] = None
-pdu-at zero (w ∷ ws) = Some (w .pdu)
-pdu-at (suc k) (w ∷ ws) = pdu-at k ws
+pdu-at k waiting = mapped (λ w. w .pdu) (nth waiting k)
 
 -- what a Take of the k-th leaves, which it keeps or removes
 abbrev pub left-by : ℕ → Bool → List Waiting → List Waiting

@@ -4,7 +4,7 @@ ghost use mathlib.Core.List.{List, []};
 ghost use mathlib.Core.Path.{_≡_};
 ghost use Prim.Native.Nat.{ℕ};
 ghost use Rattle.air.specs.Meaning.{Sound, Answers};
-ghost use Rattle.protocol.specs.Airs.{Waiting, Within, aged, after-put};
+ghost use Rattle.protocol.specs.Airs.{Waiting, Within, carries, aged, after-put, takes};
 ghost use Rattle.protocol.specs.Bytes.{Bytes};
 ghost use Rattle.std.specs.declared.option.Option.{Option as Maybe};
 
@@ -48,6 +48,20 @@ pub trait Air {
     fn take(&mut self, draw: u16, buffer: &mut [u8]) -> Option<usize>
         ensures meaning { λ r. ⌜ Answers draw (now (buffer .entry)) r (now (buffer .exit)) (waiting (now (self .entry))) (waiting (now (self .exit))) ⌝ }
         ensures exact { λ r. ⌜ gives (now (self .entry)) draw (now (buffer .entry)) r (now (buffer .exit)) (now (self .exit)) ⌝ };
+}
+
+/// Whether an air carries a PDU of this length.
+pub(crate) fn carries(pdu: &[u8]) -> bool
+    ensures { λ r. ⌜ r ≡ carries (now (pdu .entry)) ⌝ }
+{
+    !pdu.is_empty() && pdu.len() <= MAX_PDU
+}
+
+/// Whether a Take takes this draw and buffer.
+pub(crate) fn takes(draw: u16, buffer: &[u8]) -> bool
+    ensures { λ r. ⌜ r ≡ takes draw (now (buffer .entry)) ⌝ }
+{
+    draw <= MAX_DRAW && buffer.len() >= MAX_PDU
 }
 
 /// Makes 64 Skips, after which nothing waits.

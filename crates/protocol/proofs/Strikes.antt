@@ -6,8 +6,9 @@ use Prim.Native.Nat.{ℕ, zero, suc, _+_, _≤_, _<_}
 use native.Mathlib.Omega.{arith}
 use lib.Dec.{ltb}
 use lib.ListN.{length, take, drop, getD}
-use Rattle.protocol.specs.Airs.{Waiting, Within, done, kept, struck, age-limit, aged}
-use Rattle.std.proofs.shelf.Tests.{ltb-true}
+use Rattle.protocol.specs.Airs.{Waiting, Within, done, kept, struck, carries, age-limit, aged, after-put}
+use Rattle.protocol.specs.Bytes.{Bytes}
+use Rattle.std.proofs.shelf.Tests.{ltb-true, cond-true, cond-false}
 use Rattle.std.specs.shelf.Lists.{All, removed}
 
 pub within-all : {A : Type 0} (xs : List A) → Within xs xs
@@ -54,3 +55,10 @@ aged-older n (w ∷ ws) all = go (ltb (suc (w .age)) age-limit) refl (aged-older
         → All (λ w. (suc n ≤ w .age) × (w .age < age-limit)) (cond young (record { pdu = w .pdu; age = suc (w .age) } ∷ aged ws) (aged ws))
     go true young rest = ((omega (arith, all .0), ltb-true _ _ young), rest)
     go false young rest = rest
+
+-- a Put of a PDU that the air carries, and of another
+pub after-put-yes : (pdu : Bytes) (ws : List Waiting) → carries pdu ≡ true → after-put pdu ws ≡ aged ws ++ record { pdu = pdu; age = 0 } ∷ []
+after-put-yes pdu ws = cond-true (carries pdu) (aged ws ++ record { pdu = pdu; age = 0 } ∷ []) (aged ws)
+
+pub after-put-no : (pdu : Bytes) (ws : List Waiting) → carries pdu ≡ false → after-put pdu ws ≡ aged ws
+after-put-no pdu ws = cond-false (carries pdu) (aged ws ++ record { pdu = pdu; age = 0 } ∷ []) (aged ws)

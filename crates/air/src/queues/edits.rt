@@ -1,21 +1,23 @@
 //! What a queue does, each operation by the list of what waits.
 
-ghost use mathlib.Core.Bool.{cond};
 ghost use mathlib.Core.List.{[], _∷_, _++_, map};
 ghost use mathlib.Core.Path.{_≡_};
 ghost use Prim.Native.Nat.{_+_, _-_, _<_, _≤_};
 ghost use lib.ListN.{length, getD, set, take};
-ghost use Rattle.air.specs.Kept.{newest, pdu-at, left-by, put-in};
+ghost use Rattle.air.specs.Kept.{put-in, out-at, left-at};
 ghost use Rattle.air.specs.Queues.{Each, raised};
 ghost use Rattle.air.specs.Waits.{held-entries, waits};
 ghost use Rattle.protocol.specs.Airs.{aged, laid};
 ghost use Rattle.protocol.specs.Bytes.{put};
 ghost use Rattle.std.specs.Options.{mapped};
 ghost use Rattle.std.specs.shelf.Lists.{removed};
+ghost use Rattle.std.specs.shelf.Maps.{nth};
 use super::CAPACITY;
 use super::Queue;
 use crate::airs::AGE_LIMIT;
 use crate::airs::MAX_PDU;
+use crate::airs::carries;
+use crate::airs::takes;
 use crate::entries::Entry;
 
 /// Writes `bytes` at the buffer's start.
@@ -110,12 +112,44 @@ impl Queue {
         ensures { λ _. ⌜ waits (now (self .exit)) ≡ put-in (now (pdu .entry)) (waits (now (self .entry))) ⌝ }
     {
         self.grow_older();
-        if pdu.is_empty() || pdu.len() > MAX_PDU {
+        if !carries(pdu) {
             return;
         }
         if self.held == CAPACITY {
             self.remove(0);
         }
         self.push(pdu);
+    }
+
+    /// The k-th PDU from the oldest, counted from 0, and its age.
+    pub fn get(&self, k: usize) -> Option<(&[u8], u8)>
+        ensures { λ r. ⌜ mapped (λ w. record { pdu = now (w .0); age = w .1 }) r ≡ nth (waits (now (self .entry))) k ⌝ }
+    {
+        if k >= self.held {
+            return None;
+        }
+        let Entry { place, length, age } = self.entries[k];
+        let bytes = &self.store[place];
+        Some((&bytes[0..length], age))
+    }
+
+    /// Lets the k-th PDU out, which stays if `keeps`.
+    pub(crate) fn take(&mut self, k: usize, keeps: bool, draw: u16, buffer: &mut [u8]) -> Option<usize>
+        ensures answer { λ r. ⌜ r ≡ mapped length (out-at k draw (now (buffer .entry)) (waits (now (self .entry)))) ⌝ }
+        ensures written { λ _. ⌜ now (buffer .exit) ≡ laid (out-at k draw (now (buffer .entry)) (waits (now (self .entry)))) (now (buffer .entry)) ⌝ }
+        ensures left { λ _. ⌜ waits (now (self .exit)) ≡ left-at k keeps draw (now (buffer .entry)) (waits (now (self .entry))) ⌝ }
+    {
+        if !takes(draw, buffer) {
+            return None;
+        }
+        let Some((pdu, _)) = self.get(k) else {
+            return None;
+        };
+        let length = pdu.len();
+        write(buffer, pdu);
+        if !keeps {
+            self.remove(k);
+        }
+        Some(length)
     }
 }
