@@ -8,15 +8,15 @@ use native.Mathlib.Omega.{arith}
 use lib.Dec.{leb}
 use lib.ListN.{length, take, drop, getD}
 use Rattle.air.proofs.Fronts.{length-held, held-at}
-use Rattle.air.specs.Kept.{pdu-at, left-by, out-at, left-at, newest, put-in}
+use Rattle.air.specs.Kept.{pdu-at, left-by, out-at, left-at, put-in, Took}
 use Rattle.air.specs.Meaning.{Sound, Answers}
 use Rattle.air.specs.Queues.{Carried, capacity, no-entry, waiting-at}
 use Rattle.air.specs.Waits.{held-entries, waits}
 use Rattle.air.specs.declared.entries.Entry.{Entry}
 use Rattle.air.specs.declared.queues.Queue.{Queue}
 use Rattle.protocol.proofs.Strikes.{within-all, within-none, within-removed, within-drop}
-use Rattle.protocol.specs.Airs.{Waiting, Within, kept, struck, max-pdu, age-limit, carries, Waits, Lets-out, Takes, takes, laid, after-put}
-use Rattle.protocol.specs.Bytes.{Bytes}
+use Rattle.protocol.specs.Airs.{Waiting, Within, kept, struck, max-pdu, age-limit, carries, Waits, Lets-out, Takes, takes, laid, aged, after-put}
+use Rattle.protocol.specs.Bytes.{Bytes, put}
 use Rattle.std.proofs.shelf.Elements.{all-from-getD, all-map}
 use Rattle.std.proofs.shelf.Lists.{length-take-le}
 use Rattle.std.proofs.shelf.Tests.{cond-true, cond-false, le-leb, and-from}
@@ -67,14 +67,73 @@ removed-past [] (suc k) e = refl
 removed-past (x ∷ xs) zero e = absurd (none-some (sym e))
 removed-past (x ∷ xs) (suc k) e = ap (λ ys. x ∷ ys) (removed-past xs k e)
 
-pub nothing-left-by : (k : ℕ) (keeps : Bool) (ws : List Waiting) → nth ws k ≡ None → left-by k keeps ws ≡ ws
+nothing-left-by : (k : ℕ) (keeps : Bool) (ws : List Waiting) → nth ws k ≡ None → left-by k keeps ws ≡ ws
 nothing-left-by k true ws e = refl
 nothing-left-by k false ws e = removed-past ws k e
 
--- a Take that the air takes
-module _ (k draw : ℕ) (buffer : Bytes) (ws : List Waiting) (ready : takes draw buffer ≡ true) where
-  pub out-taken : out-at k draw buffer ws ≡ pdu-at k ws
-  out-taken = cond-true (takes draw buffer) (pdu-at k ws) None ready
+-- a Take where there is no k-th, and one of the k-th
+pub took-none : (k : ℕ) (keeps : Bool) (draw : ℕ) (buffer : Bytes) (ws : List Waiting) → nth ws k ≡ None → Took k keeps draw buffer None buffer ws ws
+took-none k keeps draw buffer ws none = record {
+  answers = sym (ap (mapped length) out);
+  writes = sym (ap (λ o. laid o buffer) out);
+  leaves = sym (left (takes draw buffer));
+}
+  where
+    empty : (ready : Bool) → cond ready (pdu-at k ws) None ≡ None
+    empty true = ap (mapped (λ w. w .pdu)) none
+    empty false = refl
 
-  pub left-taken : (keeps : Bool) → left-at k keeps draw buffer ws ≡ left-by k keeps ws
-  left-taken keeps = cond-true (takes draw buffer) (left-by k keeps ws) ws ready
+    out : out-at k draw buffer ws ≡ None
+    out = empty (takes draw buffer)
+
+    left : (ready : Bool) → cond ready (left-by k keeps ws) ws ≡ ws
+    left true = nothing-left-by k keeps ws none
+    left false = refl
+
+pub took-some : (k : ℕ) (keeps : Bool) (draw : ℕ) (buffer written : Bytes) (ws after : List Waiting) (w : Waiting) → takes draw buffer ≡ true → nth ws k ≡ Some w
+    → written ≡ put (w .pdu) buffer → after ≡ left-by k keeps ws → Took k keeps draw buffer (Some (length (w .pdu))) written ws after
+took-some k keeps draw buffer written ws after w ready some writes leaves =
+    let out : out-at k draw buffer ws ≡ Some (w .pdu) = cond-true (takes draw buffer) (pdu-at k ws) None ready ∙ ap (mapped (λ w. w .pdu)) some in
+    record {
+      answers = sym (ap (mapped length) out);
+      writes = writes ∙ sym (ap (λ o. laid o buffer) out);
+      leaves = leaves ∙ sym (cond-true (takes draw buffer) (left-by k keeps ws) ws ready);
+    }
+
+-- every air may do so ----------------------------------------------------------------------------------------------
+
+pub within-put : (pdu : Bytes) (ws after : List Waiting) → after ≡ put-in pdu ws → Within after (after-put pdu ws)
+within-put pdu ws after e = subst (λ vs. Within vs (after-put pdu ws)) (sym e) (within-drop (length (after-put pdu ws) - capacity) (after-put pdu ws))
+
+pub within-aged : (ws after : List Waiting) → after ≡ aged ws → Within after (aged ws)
+within-aged ws after e = subst (λ vs. Within vs (aged ws)) (sym e) (within-all (aged ws))
+
+within-left : (k : ℕ) (keeps : Bool) (ws : List Waiting) → Within (left-by k keeps ws) ws
+within-left k true ws = within-all ws
+within-left k false ws = within-removed k ws
+
+waits-at : (k : ℕ) (ws : List Waiting) (w : Waiting) → nth ws k ≡ Some w → Within (w ∷ []) ws
+waits-at k [] w e = absurd (none-some e)
+waits-at zero (v ∷ ws) w e = let same : v ≡ w = cc in subst (λ u. Within (u ∷ []) (v ∷ ws)) same (kept v (within-none ws))
+waits-at (suc k) (v ∷ ws) w e = struck v (waits-at k ws w e)
+
+lets-out : (k : ℕ) (keeps : Bool) (ws : List Waiting) → Lets-out (pdu-at k ws) ws (left-by k keeps ws)
+lets-out k keeps ws = go (nth ws k) refl
+  where
+    go : (o : Option Waiting) → nth ws k ≡ o → Lets-out (mapped (λ w. w .pdu) o) ws (left-by k keeps ws)
+    go None e = within-left k keeps ws
+    go (Some w) e = ((w .age, waits-at k ws w e), within-left k keeps ws)
+
+pub took-answers : (k : ℕ) (keeps : Bool) (draw : ℕ) (buffer : Bytes) (answer : Option ℕ) (written : Bytes) (before after : List Waiting)
+    → Took k keeps draw buffer answer written before after → Answers draw buffer answer written before after
+took-answers k keeps draw buffer answer written before after took = (
+  out-at k draw buffer before,
+  took .answers,
+  took .writes,
+  subst (λ ws. Takes draw buffer (out-at k draw buffer before) before ws) (sym (took .leaves)) (go (takes draw buffer)),
+)
+  where
+    go : (ready : Bool) → When ready (Lets-out (cond ready (pdu-at k before) None) before (cond ready (left-by k keeps before) before))
+        ((cond ready (pdu-at k before) None ≡ None) × (cond ready (left-by k keeps before) before ≡ before))
+    go true = lets-out k keeps before
+    go false = (refl, refl)

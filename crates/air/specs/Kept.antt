@@ -1,11 +1,12 @@
 -- What pipe and pool keep: at most 8 PDUs, of which a Put into a full one loses the oldest.
 use mathlib.Core.Bool.{Bool, cond}
 use mathlib.Core.List.{List}
+use mathlib.Core.Path.{_≡_}
 use Prim.Native.Nat.{ℕ, _-_, _/_, _%_}
 use lib.Dec.{eqb}
 use lib.ListN.{length, drop}
 use Rattle.air.specs.Queues.{capacity}
-use Rattle.protocol.specs.Airs.{Waiting, after-put, takes}
+use Rattle.protocol.specs.Airs.{Waiting, after-put, takes, laid}
 use Rattle.protocol.specs.Bytes.{Bytes}
 use Rattle.std.specs.declared.option.Option.{Option}
 use Rattle.std.specs.declared.option.Option.the-variants.{None}
@@ -35,9 +36,15 @@ out-at k draw buffer waiting = cond (takes draw buffer) (pdu-at k waiting) None
 abbrev pub left-at : ℕ → Bool → ℕ → Bytes → List Waiting → List Waiting
 left-at k keeps draw buffer waiting = cond (takes draw buffer) (left-by k keeps waiting) waiting
 
--- the pool's Take: the ((draw div 2) mod held)-th, kept if the draw is odd
+-- a Take of the k-th: what it answers, writes and leaves
+pub record Took (k : ℕ) (keeps : Bool) (draw : ℕ) (buffer : Bytes) (answer : Option ℕ) (written : Bytes) (before after : List Waiting) : Type 0 where
+  pub answers : answer ≡ mapped length (out-at k draw buffer before)
+  pub writes : written ≡ laid (out-at k draw buffer before) buffer
+  pub leaves : after ≡ left-at k keeps draw buffer before
+
+-- the pool takes the ((draw div 2) mod held)-th, and keeps it if the draw is odd
 abbrev pub drawn : ℕ → List Waiting → ℕ
 drawn draw waiting = draw / 2 % length waiting
 
-abbrev pub keeps : ℕ → Bool
-keeps draw = eqb (draw % 2) 1
+abbrev pub odd : ℕ → Bool
+odd draw = eqb (draw % 2) 1

@@ -1,10 +1,21 @@
-//! The air between the ends of a link.
+//! The air between the ends of a link: the trait that every air keeps, and three kinds of air.
+//!
+//! A pipe keeps the order of its PDUs, a pool repeats and reorders them, and a fade over another air
+//! loses those that its mask says. What waits in each is stated by the definitions in `specs/`.
 
 mod airs;
 mod entries;
+mod pipes;
+mod pools;
 mod queues;
 
+pub use airs::AGE_LIMIT;
 pub use airs::Air;
+pub use airs::MAX_DRAW;
+pub use airs::MAX_PDU;
 pub use airs::empty;
-pub use entries::Entry;
+pub use pipes::Pipe;
+pub use pipes::PipeAir;
+pub use pools::Pool;
+pub use pools::PoolAir;
 pub use queues::Queue;

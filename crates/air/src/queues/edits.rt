@@ -4,10 +4,11 @@ ghost use mathlib.Core.List.{[], _∷_, _++_, map};
 ghost use mathlib.Core.Path.{_≡_};
 ghost use Prim.Native.Nat.{_+_, _-_, _<_, _≤_};
 ghost use lib.ListN.{length, getD, set, take};
-ghost use Rattle.air.specs.Kept.{put-in, out-at, left-at};
+ghost use Rattle.air.specs.Kept.{put-in, Took};
+ghost use Rattle.air.specs.Meaning.{Answers};
 ghost use Rattle.air.specs.Queues.{Each, raised};
 ghost use Rattle.air.specs.Waits.{held-entries, waits};
-ghost use Rattle.protocol.specs.Airs.{aged, laid};
+ghost use Rattle.protocol.specs.Airs.{Within, aged, after-put};
 ghost use Rattle.protocol.specs.Bytes.{put};
 ghost use Rattle.std.specs.Options.{mapped};
 ghost use Rattle.std.specs.shelf.Lists.{removed};
@@ -86,6 +87,7 @@ impl Queue {
     /// Makes all that waits older by one.
     pub(crate) fn grow_older(&mut self)
         ensures after { λ _. ⌜ waits (now (self .exit)) ≡ aged (waits (now (self .entry))) ⌝ }
+        ensures meaning { λ _. ⌜ Within (waits (now (self .exit))) (aged (waits (now (self .entry)))) ⌝ }
         ensures old { λ _. ⌜ Each (λ e. 1 ≤ e .age) (held-entries (now (self .exit))) ⌝ }
     {
         self.expire();
@@ -109,7 +111,8 @@ impl Queue {
 
     /// Makes all that waits older, and adds the PDU if an air carries it; a full queue loses its oldest.
     pub(crate) fn put(&mut self, pdu: &[u8])
-        ensures { λ _. ⌜ waits (now (self .exit)) ≡ put-in (now (pdu .entry)) (waits (now (self .entry))) ⌝ }
+        ensures after { λ _. ⌜ waits (now (self .exit)) ≡ put-in (now (pdu .entry)) (waits (now (self .entry))) ⌝ }
+        ensures meaning { λ _. ⌜ Within (waits (now (self .exit))) (after-put (now (pdu .entry)) (waits (now (self .entry)))) ⌝ }
     {
         self.grow_older();
         if !carries(pdu) {
@@ -135,9 +138,8 @@ impl Queue {
 
     /// Lets the k-th PDU out, which stays if `keeps`.
     pub(crate) fn take(&mut self, k: usize, keeps: bool, draw: u16, buffer: &mut [u8]) -> Option<usize>
-        ensures answer { λ r. ⌜ r ≡ mapped length (out-at k draw (now (buffer .entry)) (waits (now (self .entry)))) ⌝ }
-        ensures written { λ _. ⌜ now (buffer .exit) ≡ laid (out-at k draw (now (buffer .entry)) (waits (now (self .entry)))) (now (buffer .entry)) ⌝ }
-        ensures left { λ _. ⌜ waits (now (self .exit)) ≡ left-at k keeps draw (now (buffer .entry)) (waits (now (self .entry))) ⌝ }
+        ensures took { λ r. ⌜ Took k keeps draw (now (buffer .entry)) r (now (buffer .exit)) (waits (now (self .entry))) (waits (now (self .exit))) ⌝ }
+        ensures meaning { λ r. ⌜ Answers draw (now (buffer .entry)) r (now (buffer .exit)) (waits (now (self .entry))) (waits (now (self .exit))) ⌝ }
     {
         if !takes(draw, buffer) {
             return None;

@@ -5,11 +5,12 @@ use Prim.Native.Nat.{_≤_, _<_}
 use native.Mathlib.Omega.{arith}
 use lib.ListN.{length}
 use Rattle.air.proofs.Fronts.{length-held, length-waits}
+use Rattle.air.proofs.Lets.{within-put}
 use Rattle.air.proofs.Notes.{each-removed}
 use Rattle.air.proofs.Pushes.{newest-short, newest-room, newest-full}
 use Rattle.air.proofs.queues.Queue.put.Needs as need
 use Rattle.air.proofs.queues.Queue.put.Needs.{then-self-eq-CAPACITY, else-self-eq-CAPACITY}
-use Rattle.air.specs.Kept.{newest}
+use Rattle.air.specs.Kept.{newest, put-in}
 use Rattle.air.specs.Queues.{Each}
 use Rattle.air.specs.Waits.{held-entries, waits}
 use Rattle.air.specs.declared.queues.Queue.{Queue}
@@ -20,8 +21,10 @@ use Rattle.std.proofs.shelf.Tests.{leb-true, and-parts}
 pub returns-then-not-carries : need.returns-then-not-carries
 returns-then-not-carries c =
     let q = c .grow-older .last .self in
+    let after : waits q ≡ put-in (c .args .pdu .now) (waits (c .args .self .now)) =
     sym (newest-short (waits q) (omega (arith, length-waits q, q .full .1)))
-    ∙ ap newest (c .grow-older .ensures .after ∙ sym (after-put-no (c .args .pdu .now) (waits (c .args .self .now)) (sym (c .if-not-carries .ensures tt))))
+    ∙ ap newest (c .grow-older .ensures .after ∙ sym (after-put-no (c .args .pdu .now) (waits (c .args .self .now)) (sym (c .if-not-carries .ensures tt)))) in
+    record { after = after; meaning = within-put (c .args .pdu .now) (waits (c .args .self .now)) (waits q) after }
 
 pub push-requires : need.push-requires
 push-requires c κs =
@@ -51,5 +54,7 @@ returns c =
       then-self-eq-CAPACITY w ↦ ap (λ q. waits q ++ new ∷ []) (w .self-is) ∙ ap (λ ws. ws ++ new ∷ []) (w .remove .ensures .after) ∙ newest-full (waits q) new (length-waits q ∙ w .if-self-eq-CAPACITY .taken)
     | else-self-eq-CAPACITY w ↦ ap (λ q. waits q ++ new ∷ []) (w .self-is) ∙ newest-room (waits q) new (omega (arith, length-waits q, w .if-self-eq-CAPACITY .left, q .full .1))
     ] in
+    let after : waits (c .push .last .self) ≡ put-in (c .args .pdu .now) (waits (c .args .self .now)) =
     c .push .ensures ∙ added ∙ ap (λ ws. newest (ws ++ new ∷ [])) (c .grow-older .ensures .after)
-    ∙ ap newest (sym (after-put-yes (c .args .pdu .now) (waits (c .args .self .now)) (sym (c .if-not-carries .ensures tt))))
+    ∙ ap newest (sym (after-put-yes (c .args .pdu .now) (waits (c .args .self .now)) (sym (c .if-not-carries .ensures tt)))) in
+    record { after = after; meaning = within-put (c .args .pdu .now) (waits (c .args .self .now)) (waits (c .push .last .self)) after }
