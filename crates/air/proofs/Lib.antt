@@ -3,3 +3,4 @@ pub mod Notes
 pub mod Fronts
 pub mod Pushes
 pub mod Lets
+pub mod Masks

@@ -2,3 +2,4 @@ pub mod Meaning
 pub mod Queues
 pub mod Waits
 pub mod Kept
+pub mod Fading

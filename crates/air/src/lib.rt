@@ -5,6 +5,7 @@
 
 mod airs;
 mod entries;
+mod fades;
 mod pipes;
 mod pools;
 mod queues;
@@ -14,6 +15,8 @@ pub use airs::Air;
 pub use airs::MAX_DRAW;
 pub use airs::MAX_PDU;
 pub use airs::empty;
+pub use fades::Fade;
+pub use fades::FadeAir;
 pub use pipes::Pipe;
 pub use pipes::PipeAir;
 pub use pools::Pool;

@@ -62,3 +62,11 @@ after-put-yes pdu ws = cond-true (carries pdu) (aged ws ++ record { pdu = pdu; a
 
 pub after-put-no : (pdu : Bytes) (ws : List Waiting) → carries pdu ≡ false → after-put pdu ws ≡ aged ws
 after-put-no pdu ws = cond-false (carries pdu) (aged ws ++ record { pdu = pdu; age = 0 } ∷ []) (aged ws)
+
+-- what a Skip may leave, a Put may
+pub skip-within-put : (pdu : Bytes) (ws : List Waiting) → Within (aged ws) (after-put pdu ws)
+skip-within-put pdu ws = go (carries pdu)
+  where
+    go : (b : Bool) → Within (aged ws) (cond b (aged ws ++ record { pdu = pdu; age = 0 } ∷ []) (aged ws))
+    go true = within-front (aged ws) (record { pdu = pdu; age = 0 } ∷ [])
+    go false = within-all (aged ws)
