@@ -61,8 +61,7 @@ parts-raised q n e young =
     ) in
     let same = place-raised n (q .entries) in
     let carried : Each Carried (map raised (held-entries q)) =
-    each-raised (λ e. Carried e × (e .age + 1 < age-limit)) Carried (λ e h. (h .0 .0, h .0 .1, h .1)) (held-entries q) (λ i lt. (q .carried i lt, young i lt)) in
-    (
+    each-raised (λ e. Carried e × (e .age + 1 < age-limit)) Carried (λ e h. (h .0 .0, h .0 .1, h .1)) (held-entries q) (λ i lt. (q .carried i lt, young i lt)) in (
       q .room,
       (
         (long ∙ q .full .0, q .full .1),

@@ -14,13 +14,13 @@ use Rattle.air.specs.Queues.{Carried, capacity, no-entry, waiting-at}
 use Rattle.air.specs.Waits.{held-entries, waits}
 use Rattle.air.specs.declared.entries.Entry.{Entry}
 use Rattle.air.specs.declared.queues.Queue.{Queue}
-use Rattle.protocol.proofs.Strikes.{within-all, within-none, within-removed, within-drop}
-use Rattle.protocol.specs.Airs.{Waiting, Within, kept, struck, max-pdu, age-limit, carries, Waits, Lets-out, Takes, takes, laid, aged, after-put}
+use Rattle.protocol.proofs.Strikes.{within-all, within-none, within-removed, within-drop, all-within}
+use Rattle.protocol.specs.Airs.{Waiting, Within, kept, struck, max-pdu, max-draw, age-limit, carries, Waits, Lets-out, Takes, takes, laid, aged, after-put}
 use Rattle.protocol.specs.Bytes.{Bytes, put}
 use Rattle.std.proofs.shelf.Elements.{all-from-getD, all-map}
 use Rattle.std.proofs.shelf.Lists.{length-take-le}
-use Rattle.std.proofs.shelf.Tests.{cond-true, cond-false, le-leb, and-from}
-use Rattle.std.specs.Options.{mapped}
+use Rattle.std.proofs.shelf.Tests.{cond-true, le-leb, leb-true, and-from, and-parts}
+use Rattle.std.specs.Options.{mapped, Cases}
 use Rattle.std.specs.Orderings.{When}
 use Rattle.std.specs.declared.option.Option.{Option}
 use Rattle.std.specs.declared.option.Option.the-variants.{Some, None}
@@ -137,3 +137,21 @@ took-answers k keeps draw buffer answer written before after took = (
         ((cond ready (pdu-at k before) None ≡ None) × (cond ready (left-by k keeps before) before ≡ before))
     go true = lets-out k keeps before
     go false = (refl, refl)
+
+-- what a Take of any air answers is the length of a PDU that it carries, and fits the buffer
+abbrev pub Fits : Bytes → ℕ → Type 0
+Fits buffer n = (1 ≤ n) × (n ≤ max-pdu) × (n ≤ length buffer)
+
+pub answer-fits : (draw : ℕ) (buffer : Bytes) (answer : Option ℕ) (written : Bytes) (before after : List Waiting) → Sound before
+    → Answers draw buffer answer written before after → Cases answer (Unit {0}) (Fits buffer)
+answer-fits draw buffer answer written before after sound taken =
+    subst (λ o. Cases o (Unit {0}) (Fits buffer)) (sym (taken .1)) (go (taken .0) (takes draw buffer) refl (taken .3))
+  where
+    go : (o : Option Bytes) (ready : Bool) → takes draw buffer ≡ ready → When ready (Lets-out o before after) ((o ≡ None) × (after ≡ before)) → Cases (mapped length o) (Unit {0}) (Fits buffer)
+    go None ready e h = tt
+    go (Some pdu) false e h = absurd (none-some (sym (h .0)))
+    go (Some pdu) true e h =
+        let good = and-parts (leb 1 (length pdu)) (leb (length pdu) max-pdu) (all-within (λ w. (carries (w .pdu) ≡ true) × (w .age < age-limit)) (h .0 .1) sound .0 .0) in
+        let room = leb-true max-pdu (length buffer) (and-parts (leb draw max-draw) (leb max-pdu (length buffer)) e .1) in
+        let long = leb-true (length pdu) max-pdu (good .1) in
+        (leb-true 1 (length pdu) (good .0), long, omega arith)

@@ -76,8 +76,8 @@ Turned : ℕ → ℕ → ℕ → ℕ → Type 0
 Turned k n i j = ((j ≡ i) × ((i < k) ⊎ (k + n ≤ i))) ⊎ (((k ≤ i) × (i + 1 < k + n) × (j ≡ i + 1)) ⊎ ((i + 1 ≡ k + n) × (j ≡ k)))
 
 module _ (k n : ℕ) (es ys : List Entry) (fits : k + n ≤ length es) (pos : 0 < n) (long : length ys ≡ n)
-  (next : (j : ℕ) → j + 1 < n → getD ys j no-entry ≡ getD (midOf k n es) (j + 1) no-entry)
-  (last : (j : ℕ) → n ≤ j + 1 → j < n → getD ys j no-entry ≡ getD (midOf k n es) (j + 1 - n) no-entry) where
+    (next : (j : ℕ) → j + 1 < n → getD ys j no-entry ≡ getD (midOf k n es) (j + 1) no-entry)
+    (last : (j : ℕ) → n ≤ j + 1 → j < n → getD ys j no-entry ≡ getD (midOf k n es) (j + 1 - n) no-entry) where
   turned-from : (i : ℕ) → (j : ℕ) × (getD (putMid k n es ys) i no-entry ≡ getD es j no-entry) × Turned k n i j
   unfolding Turned
   turned-from i = ⊎-elim below above (cases-lt i k)
@@ -154,7 +154,7 @@ Rotated xs ys =
     × ((i : ℕ) (d : Entry) → length xs ≤ i + 1 → i < length xs → getD ys i d ≡ getD xs (i + 1 - length xs) d)
 
 module _ (es ys : List Entry) (k held : ℕ) (lt : k < held) (fits : held ≤ length es)
-  (long : length ys ≡ length (midOf k (held - k) es)) (rotated : Rotated (midOf k (held - k) es) ys) where
+    (long : length ys ≡ length (midOf k (held - k) es)) (rotated : Rotated (midOf k (held - k) es) ys) where
   span : length (midOf k (held - k) es) ≡ held - k
   span = length-take-le (held - k) (drop k es) (omega (arith, length-drop k es))
 
@@ -182,7 +182,7 @@ module _ (es ys : List Entry) (k held : ℕ) (lt : k < held) (fits : held ≤ le
 -- entries with the places of others ----------------------------------------------------------------------------------
 
 module _ (es fs : List Entry) (long : length fs ≡ length es)
-  (same : (i : ℕ) → getD fs i no-entry .place ≡ getD es i no-entry .place) where
+    (same : (i : ℕ) → getD fs i no-entry .place ≡ getD es i no-entry .place) where
   pub each-placed : Each (λ e. e .place < capacity) es → Each (λ e. e .place < capacity) fs
   each-placed all i lt = omega (arith, same i, all i (omega arith))
 

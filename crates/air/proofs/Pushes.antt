@@ -57,8 +57,7 @@ module _ (q : Queue) (pdu : Bytes) (room : q .held < capacity) (carried : (1 ≤
       let fs = set (q .entries) (q .held) (noted q pdu) in
       let long = length-set (q .entries) (q .held) (noted q pdu) in
       let same = place-set (q .entries) (q .held) (noted q pdu) refl in
-      let new : Carried (noted q pdu) = (carried .0, carried .1, omega arith) in
-      (
+      let new : Carried (noted q pdu) = (carried .0, carried .1, omega arith) in (
         stored,
         (
           (long ∙ q .full .0, omega arith),

@@ -24,7 +24,11 @@ impl<A: Air> Fade<A> {
         ensures mask { λ r. ⌜ r .mask ≡ mask ⌝ }
         ensures number { λ r. ⌜ r .number ≡ 0 ⌝ }
     {
-        Fade { below, mask, number: 0 }
+        Fade {
+            below,
+            mask,
+            number: 0,
+        }
     }
 
     pub fn below(&self) -> &A
@@ -36,7 +40,11 @@ impl<A: Air> Fade<A> {
     pub fn into_below(self) -> A
         ensures { λ r. ⌜ r ≡ self .below ⌝ }
     {
-        let Fade { below, mask: _, number: _ } = self;
+        let Fade {
+            below,
+            mask: _,
+            number: _,
+        } = self;
         below
     }
 }

@@ -20,7 +20,9 @@ impl Pipe {
     pub fn new() -> Self
         ensures { λ r. ⌜ waits (r .queue) ≡ [] ⌝ }
     {
-        Pipe { queue: Queue::new() }
+        Pipe {
+            queue: Queue::new(),
+        }
     }
 
     /// What waits, to look at.

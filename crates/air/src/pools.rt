@@ -19,7 +19,9 @@ impl Pool {
     pub fn new() -> Self
         ensures { λ r. ⌜ waits (r .queue) ≡ [] ⌝ }
     {
-        Pool { queue: Queue::new() }
+        Pool {
+            queue: Queue::new(),
+        }
     }
 
     /// What waits, to look at.

@@ -4,6 +4,7 @@ ghost use mathlib.Core.Path.{_≡_};
 ghost use Prim.Native.Nat.{_<_, _≤_};
 ghost use lib.ListN.{length, take};
 ghost use Rattle.air.specs.Queues.{Each, Pairs, Stored, Apart, Carried, Older};
+
 mod edits;
 
 use crate::airs::MAX_PDU;

@@ -6,9 +6,12 @@ use Prim.Native.Nat.{ℕ, zero, suc, _+_, _≤_, _<_}
 use native.Mathlib.Omega.{arith}
 use lib.Dec.{ltb}
 use lib.ListN.{length, take, drop, getD}
-use Rattle.protocol.specs.Airs.{Waiting, Within, done, kept, struck, carries, age-limit, aged, after-put}
+use Rattle.protocol.specs.Airs.{Waiting, Within, done, kept, struck, carries, age-limit, aged, after-put, takes, Takes}
 use Rattle.protocol.specs.Bytes.{Bytes}
 use Rattle.std.proofs.shelf.Tests.{ltb-true, cond-true, cond-false}
+use Rattle.std.specs.Orderings.{When}
+use Rattle.std.specs.declared.option.Option.{Option}
+use Rattle.std.specs.declared.option.Option.the-variants.{None}
 use Rattle.std.specs.shelf.Lists.{All, removed}
 
 pub within-all : {A : Type 0} (xs : List A) → Within xs xs
@@ -70,3 +73,11 @@ skip-within-put pdu ws = go (carries pdu)
     go : (b : Bool) → Within (aged ws) (cond b (aged ws ++ record { pdu = pdu; age = 0 } ∷ []) (aged ws))
     go true = within-front (aged ws) (record { pdu = pdu; age = 0 } ∷ [])
     go false = within-all (aged ws)
+
+-- a Take may always let nothing out and leave everything
+pub takes-nothing : (draw : ℕ) (buffer : Bytes) (ws : List Waiting) → Takes draw buffer None ws ws
+takes-nothing draw buffer ws = go (takes draw buffer)
+  where
+    go : (ready : Bool) → When ready (Within ws ws) ((_≡_ {A = Option Bytes} None None) × (ws ≡ ws))
+    go true = within-all ws
+    go false = (refl, refl)

@@ -50,11 +50,19 @@ impl Queue {
     pub(crate) fn new() -> Self
         ensures { λ r. ⌜ waits r ≡ [] ⌝ }
     {
-        let mut entries = [Entry { place: 0, length: 0, age: 0 }; CAPACITY];
+        let mut entries = [Entry {
+            place: 0,
+            length: 0,
+            age: 0,
+        }; CAPACITY];
         for i in 0..CAPACITY {
             entries[i].place = i;
         }
-        Queue { store: [[0; MAX_PDU]; CAPACITY], entries, held: 0 }
+        Queue {
+            store: [[0; MAX_PDU]; CAPACITY],
+            entries,
+            held: 0,
+        }
     }
 
     pub(crate) fn len(&self) -> usize
@@ -105,7 +113,11 @@ impl Queue {
         let place = self.entries[held].place;
         write_at(&mut self.store, place, pdu);
         let length = pdu.len();
-        self.entries[held] = Entry { place, length, age: 0 };
+        self.entries[held] = Entry {
+            place,
+            length,
+            age: 0,
+        };
         self.held += 1;
     }
 
@@ -137,7 +149,13 @@ impl Queue {
     }
 
     /// Lets the k-th PDU out, which stays if `keeps`.
-    pub(crate) fn take(&mut self, k: usize, keeps: bool, draw: u16, buffer: &mut [u8]) -> Option<usize>
+    pub(crate) fn take(
+        &mut self,
+        k: usize,
+        keeps: bool,
+        draw: u16,
+        buffer: &mut [u8],
+    ) -> Option<usize>
         ensures took { λ r. ⌜ Took k keeps draw (now (buffer .entry)) r (now (buffer .exit)) (waits (now (self .entry))) (waits (now (self .exit))) ⌝ }
         ensures meaning { λ r. ⌜ Answers draw (now (buffer .entry)) r (now (buffer .exit)) (waits (now (self .entry))) (waits (now (self .exit))) ⌝ }
     {

@@ -23,8 +23,8 @@ returns-then-self-eq-AGE-LIMIT c =
     let some : 0 < length (held-entries q) = omega (arith, length-held q) in
     record {
       after =
-        ap aged (c .remove .ensures .after ∙ sym (map-removed (waiting-at (q .store)) (held-entries q) 0))
-            ∙ aged-expired (q .store) (held-entries q) some (ap (λ e. e .age + 1) (held-at q 0 lt) ∙ c .if-self-eq-AGE-LIMIT .taken);
+          ap aged (c .remove .ensures .after ∙ sym (map-removed (waiting-at (q .store)) (held-entries q) 0))
+          ∙ aged-expired (q .store) (held-entries q) some (ap (λ e. e .age + 1) (held-at q 0 lt) ∙ c .if-self-eq-AGE-LIMIT .taken);
       young = subst (λ es. Each (λ e. e .age + 1 < age-limit) es) (sym (c .remove .ensures .entries)) (young-rest (held-entries q) (q .carried) (q .older));
     }
 
@@ -34,8 +34,8 @@ returns-else-self-gt0 c =
     record {
       after = refl;
       young =
-        elim (c .else-self-gt0 .came) [
-          else-self-gt0·by·then-self-gt0·else-self-eq-AGE-LIMIT w ↦ young-all (held-entries q) (q .carried) (q .older) (λ e. w .if-self-eq-AGE-LIMIT .left (sym (ap (λ e. e .age + 1) (held-at q 0 (w .if-self-gt0 .taken))) ∙ e))
-        | else-self-gt0·by·else-self-gt0 w ↦ λ i lt. absurd (omega (arith, length-held q, w .if-self-gt0 .left))
-        ];
+          elim (c .else-self-gt0 .came) [
+            | else-self-gt0·by·then-self-gt0·else-self-eq-AGE-LIMIT w ↦ young-all (held-entries q) (q .carried) (q .older) (λ e. w .if-self-eq-AGE-LIMIT .left (sym (ap (λ e. e .age + 1) (held-at q 0 (w .if-self-gt0 .taken))) ∙ e))
+            | else-self-gt0·by·else-self-gt0 w ↦ λ i lt. absurd (omega (arith, length-held q, w .if-self-gt0 .left))
+          ];
     }

@@ -36,6 +36,6 @@ returns c =
       after = after;
       meaning = within-aged (waits (c .args .self .now)) _ after;
       old =
-        subst (λ es. Each (λ e. 1 ≤ e .age) es) (sym front)
-            (each-raised (λ e. e .age + 1 < age-limit) (λ e. 1 ≤ e .age) (λ e h. omega arith) (held-entries q) (c .expire .ensures .young));
+          subst (λ es. Each (λ e. 1 ≤ e .age) es) (sym front)
+          (each-raised (λ e. e .age + 1 < age-limit) (λ e. 1 ≤ e .age) (λ e h. omega arith) (held-entries q) (c .expire .ensures .young));
     }

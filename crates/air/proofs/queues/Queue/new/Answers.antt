@@ -11,8 +11,7 @@ pub ghost-result : need.ghost-result
 ghost-result c =
     let zeros : Bytes = replicate 520 0 in
     let all : 8 ≤ c .loop-i .i = c .loop-i-test .left in
-    let own = c .loop-i .inv .1 in
-    (
+    let own = c .loop-i .inv .1 in (
       (refl, λ i lt. ap length (getD-replicate 8 i zeros [] lt) ∙ length-replicate {A = ℕ} 520 0),
       (
         (c .loop-i .inv .0, omega arith),

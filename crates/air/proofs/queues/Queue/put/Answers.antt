@@ -33,16 +33,16 @@ push-requires c κs =
     let Room : Queue → Type 0 = λ q. q .held < 8 in
     record {
       room =
-        elim (c .if-self-eq-CAPACITY .came) [
-          then-self-eq-CAPACITY w ↦ subst Room (sym (w .self-is)) (omega (arith, w .remove .ensures .held, w .if-self-eq-CAPACITY .taken))
-        | else-self-eq-CAPACITY w ↦ subst Room (sym (w .self-is)) (omega (arith, w .if-self-eq-CAPACITY .left, q .full .1))
-        ];
+          elim (c .if-self-eq-CAPACITY .came) [
+            | then-self-eq-CAPACITY w ↦ subst Room (sym (w .self-is)) (omega (arith, w .remove .ensures .held, w .if-self-eq-CAPACITY .taken))
+            | else-self-eq-CAPACITY w ↦ subst Room (sym (w .self-is)) (omega (arith, w .if-self-eq-CAPACITY .left, q .full .1))
+          ];
       carried = let long = and-parts _ _ (sym (c .if-not-carries .ensures tt)) in (leb-true _ _ (long .0), leb-true _ _ (long .1));
       old =
-        elim (c .if-self-eq-CAPACITY .came) [
-          then-self-eq-CAPACITY w ↦ subst Old (sym (w .self-is)) (subst (λ es. Each (λ e. 1 ≤ e .age) es) (sym (w .remove .ensures .entries)) (each-removed (held-entries q) 0 (omega (arith, length-held q, w .if-self-eq-CAPACITY .taken)) (λ e. 1 ≤ e .age) (c .grow-older .ensures .old)))
-        | else-self-eq-CAPACITY w ↦ subst Old (sym (w .self-is)) (c .grow-older .ensures .old)
-        ];
+          elim (c .if-self-eq-CAPACITY .came) [
+            | then-self-eq-CAPACITY w ↦ subst Old (sym (w .self-is)) (subst (λ es. Each (λ e. 1 ≤ e .age) es) (sym (w .remove .ensures .entries)) (each-removed (held-entries q) 0 (omega (arith, length-held q, w .if-self-eq-CAPACITY .taken)) (λ e. 1 ≤ e .age) (c .grow-older .ensures .old)))
+            | else-self-eq-CAPACITY w ↦ subst Old (sym (w .self-is)) (c .grow-older .ensures .old)
+          ];
     }
 
 pub returns : need.returns
@@ -51,8 +51,8 @@ returns c =
     let new : Waiting = record { pdu = c .args .pdu .now; age = 0 } in
     let added : waits (c .if-self-eq-CAPACITY .self) ++ new ∷ [] ≡ newest (waits q ++ new ∷ []) =
     elim (c .if-self-eq-CAPACITY .came) [
-      then-self-eq-CAPACITY w ↦ ap (λ q. waits q ++ new ∷ []) (w .self-is) ∙ ap (λ ws. ws ++ new ∷ []) (w .remove .ensures .after) ∙ newest-full (waits q) new (length-waits q ∙ w .if-self-eq-CAPACITY .taken)
-    | else-self-eq-CAPACITY w ↦ ap (λ q. waits q ++ new ∷ []) (w .self-is) ∙ newest-room (waits q) new (omega (arith, length-waits q, w .if-self-eq-CAPACITY .left, q .full .1))
+      | then-self-eq-CAPACITY w ↦ ap (λ q. waits q ++ new ∷ []) (w .self-is) ∙ ap (λ ws. ws ++ new ∷ []) (w .remove .ensures .after) ∙ newest-full (waits q) new (length-waits q ∙ w .if-self-eq-CAPACITY .taken)
+      | else-self-eq-CAPACITY w ↦ ap (λ q. waits q ++ new ∷ []) (w .self-is) ∙ newest-room (waits q) new (omega (arith, length-waits q, w .if-self-eq-CAPACITY .left, q .full .1))
     ] in
     let after : waits (c .push .last .self) ≡ put-in (c .args .pdu .now) (waits (c .args .self .now)) =
     c .push .ensures ∙ added ∙ ap (λ ws. newest (ws ++ new ∷ [])) (c .grow-older .ensures .after)

@@ -19,8 +19,7 @@ ghost-self c =
     let fits : q .held ≤ length (q .entries) = omega (arith, q .full .0, q .full .1) in
     let front : take (q .held - 1) (putMid k (q .held - k) (q .entries) ys) ≡ removed (take (q .held) (q .entries)) k =
     take-rotated (q .entries) ys k (q .held) (c .pre) fits (turn .len) (turn .places) in
-    let within : k < length (take (q .held) (q .entries)) = omega (arith, length-take-le (q .held) (q .entries) fits) in
-    (
+    let within : k < length (take (q .held) (q .entries)) = omega (arith, length-take-le (q .held) (q .entries) fits) in (
       q .room,
       (
         (length-rotated (q .entries) ys k (q .held) (c .pre) fits (turn .len) (turn .places) ∙ q .full .0, omega (arith, q .full .1)),
