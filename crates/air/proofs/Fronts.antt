@@ -17,7 +17,7 @@ use Rattle.std.specs.declared.option.Option.the-variants.{Some}
 use Rattle.std.specs.shelf.Maps.{nth}
 
 pub length-held : (q : Queue) → length (held-entries q) ≡ q .held
-length-held q = length-take-le (q .held) (q .entries) (omega (arith, q .full .0, q .full .1))
+length-held q = length-take-le (q .held) (q .entries) (omega (arith, q .bounded .0, q .bounded .1))
 
 pub length-waits : (q : Queue) → length (waits q) ≡ q .held
 length-waits q = length-map (held-entries q) (waiting-at (q .store)) ∙ length-held q
@@ -54,17 +54,17 @@ parts-raised q n e young =
       arith,
       length-append (map raised (take n (q .entries))) (drop n (q .entries)),
       length-map (take n (q .entries)) raised,
-      length-take-le n (q .entries) (omega (arith, q .full .0, q .full .1)),
+      length-take-le n (q .entries) (omega (arith, q .bounded .0, q .bounded .1)),
       length-drop n (q .entries),
-      q .full .0,
-      q .full .1,
+      q .bounded .0,
+      q .bounded .1,
     ) in
     let same = place-raised n (q .entries) in
     let carried : Each Carried (map raised (held-entries q)) =
     each-raised (λ e. Carried e × (e .age + 1 < age-limit)) Carried (λ e h. (h .0 .0, h .0 .1, h .1)) (held-entries q) (λ i lt. (q .carried i lt, young i lt)) in (
       q .room,
       (
-        (long ∙ q .full .0, q .full .1),
+        (long ∙ q .bounded .0, q .bounded .1),
         (
           each-placed (q .entries) fs long same (q .placed),
           (

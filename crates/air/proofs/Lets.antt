@@ -34,7 +34,7 @@ sound-at : (q : Queue) (i : ℕ) → i < length (held-entries q)
 sound-at q i lt =
     let e = getD (held-entries q) i no-entry in
     let is : e .place ≡ getD (q .entries) i no-entry .place = ap (λ f. f .place) (held-at q i (omega (arith, length-held q))) in
-    let place : e .place < capacity = omega (arith, is, q .placed i (omega (arith, length-held q, q .full .0, q .full .1))) in
+    let place : e .place < capacity = omega (arith, is, q .placed i (omega (arith, length-held q, q .bounded .0, q .bounded .1))) in
     let good = q .carried i lt in
     let n : ℕ = length (take (e .length) (getD (q .store) (e .place) [])) in
     let long : n ≡ e .length =

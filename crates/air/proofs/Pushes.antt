@@ -30,7 +30,7 @@ noted q pdu = record { place = free q; length = length pdu; age = 0 }
 
 module _ (q : Queue) (pdu : Bytes) (room : q .held < capacity) (carried : (1 ≤ length pdu) × (length pdu ≤ max-pdu)) where
   pub free-within : free q < length (q .store)
-  free-within = omega (arith, q .room .0, q .placed (q .held) (omega (arith, q .full .0)))
+  free-within = omega (arith, q .room .0, q .placed (q .held) (omega (arith, q .bounded .0)))
 
   length-written : length (put pdu (getD (q .store) (free q) [])) ≡ max-pdu
   length-written =
@@ -50,7 +50,7 @@ module _ (q : Queue) (pdu : Bytes) (room : q .held < capacity) (carried : (1 ≤
   )
 
   front : take (q .held + 1) (set (q .entries) (q .held) (noted q pdu)) ≡ held-entries q ++ noted q pdu ∷ []
-  front = take-more-set (q .entries) (q .held) (noted q pdu) (omega (arith, q .full .0))
+  front = take-more-set (q .entries) (q .held) (noted q pdu) (omega (arith, q .bounded .0))
 
   pub parts-pushed : Each (λ e. 1 ≤ e .age) (held-entries q) → Parts (written q pdu) (set (q .entries) (q .held) (noted q pdu)) (q .held + 1)
   parts-pushed old =
@@ -60,7 +60,7 @@ module _ (q : Queue) (pdu : Bytes) (room : q .held < capacity) (carried : (1 ≤
       let new : Carried (noted q pdu) = (carried .0, carried .1, omega arith) in (
         stored,
         (
-          (long ∙ q .full .0, omega arith),
+          (long ∙ q .bounded .0, omega arith),
           (
             each-placed (q .entries) fs long same (q .placed),
             (
@@ -77,7 +77,7 @@ module _ (q : Queue) (pdu : Bytes) (room : q .held < capacity) (carried : (1 ≤
   others : Each (λ e. e .place ≡ free q → ⊥) (held-entries q)
   others i lt e =
       let less : i < q .held = omega (arith, length-held q) in
-      q .apart i (q .held) less (omega (arith, q .full .0)) (sym (ap (λ f. f .place) (held-at q i less)) ∙ e)
+      q .apart i (q .held) less (omega (arith, q .bounded .0)) (sym (ap (λ f. f .place) (held-at q i less)) ∙ e)
 
   pub waits-pushed : map (waiting-at (written q pdu)) (take (q .held + 1) (set (q .entries) (q .held) (noted q pdu))) ≡ waits q ++ record { pdu = pdu; age = 0 } ∷ []
   waits-pushed =

@@ -52,18 +52,20 @@ impl<A: Air> Fade<A> {
 pub impl<A: Air> Air for Fade<A> as FadeAir {
     ghost waiting = { λ f. A·Air .waiting (f .below) };
 
-    ghost puts = { λ f pdu f′. When (passes (f .mask) (f .number) pdu) (A·Air .puts (f .below) pdu (f′ .below)) (A·Air .skips (f .below) (f′ .below)) × (f′ .mask ≡ f .mask) × (f′ .number ≡ number-after pdu (f .number)) };
+    ghost puts = { λ f pdu f′.
+        When (passes (f .mask) (f .number) pdu) (A·Air .puts (f .below) pdu (f′ .below)) (A·Air .skips (f .below) (f′ .below))
+        × (f′ .mask ≡ f .mask) × (f′ .number ≡ number-after pdu (f .number)) };
 
     ghost skips = { λ f f′. A·Air .skips (f .below) (f′ .below) × (f′ .mask ≡ f .mask) × (f′ .number ≡ f .number) };
 
-    ghost gives = { λ f draw buffer answer written f′. A·Air .gives (f .below) draw buffer answer written (f′ .below) × (f′ .mask ≡ f .mask) × (f′ .number ≡ f .number) };
+    ghost gives = { λ f draw buffer answer written f′.
+        A·Air .gives (f .below) draw buffer answer written (f′ .below) × (f′ .mask ≡ f .mask) × (f′ .number ≡ f .number) };
 
     fn put(&mut self, pdu: &[u8]) {
         if !carries(pdu) {
-            self.below.skip();
-            return;
+            return self.below.skip();
         }
-        let lost = self.mask >> self.number & 1 == 1;
+        let lost = (self.mask >> self.number) & 1 == 1;
         self.number = (self.number + 1) % 64;
         if lost {
             self.below.skip();

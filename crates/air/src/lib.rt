@@ -21,4 +21,3 @@ pub use pipes::Pipe;
 pub use pipes::PipeAir;
 pub use pools::Pool;
 pub use pools::PoolAir;
-pub use queues::Queue;

@@ -21,7 +21,7 @@ pub struct Queue {
     entries: [Entry; CAPACITY],
     held: usize,
     ghost room: { Stored store },
-    ghost full: { (length entries ≡ 8) × (held ≤ 8) },
+    ghost bounded: { (length entries ≡ 8) × (held ≤ 8) },
     ghost placed: { Each (λ e. e .place < 8) entries },
     ghost apart: { Pairs Apart entries },
     ghost carried: { Each Carried (take held entries) },

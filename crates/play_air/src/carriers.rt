@@ -9,7 +9,6 @@ use air::Pipe;
 use air::PipeAir;
 use air::Pool;
 use air::PoolAir;
-use air::Queue;
 
 /// An air of each kind, of which the script uses one.
 #[derive(Drop)]
@@ -62,12 +61,12 @@ impl Carrier {
         }
     }
 
-    /// What waits.
-    pub fn queue(&self) -> &Queue {
+    /// The k-th PDU that waits, oldest first, and its age.
+    pub fn get(&self, k: usize) -> Option<(&[u8], u8)> {
         if self.pooled {
-            self.pool.below().queue()
+            self.pool.below().get(k)
         } else {
-            self.pipe.below().queue()
+            self.pipe.below().get(k)
         }
     }
 }

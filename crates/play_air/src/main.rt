@@ -17,7 +17,7 @@ use std::error::AnyError;
 fn listing(heap: Global, carrier: &Carrier) -> Result<String, AllocError> {
     let mut text = String::from_str(heap, "  waits:")?;
     for k in 0..8 {
-        if let Some((pdu, age)) = carrier.queue().get(k) {
+        if let Some((pdu, age)) = carrier.get(k) {
             text.push_str(format!(heap, " {}@{age}", hex(heap, pdu)?)?.as_str())?;
         }
     }

@@ -23,18 +23,18 @@ pub fn parse(heap: Global, line: &str) -> Result<Result<Command, &'static str>, 
         return Ok(Err("  error: too many words"));
     }
     Ok(
-        match verb {
-            "air" => start(first, second),
-            "put" => match bytes(heap, first.as_bytes())? {
+        match (verb, first, second) {
+            ("air", _, _) => start(first, second),
+            ("put", _, "") => match bytes(heap, first.as_bytes())? {
                 Some(pdu) => Ok(Command::Put(pdu)),
                 None => Err("  error: put takes bytes, two hexadecimal digits each"),
             },
-            "skip" => Ok(Command::Skip),
-            "take" => match first.parse::<u16>() {
+            ("skip", "", _) => Ok(Command::Skip),
+            ("take", _, "") => match first.parse::<u16>() {
                 Ok(draw) => Ok(Command::Take(draw)),
                 Err(_) => Err("  error: take takes a draw, 0 to 65535"),
             },
-            _ => Err("  error: a line is air, put, skip or take"),
+            _ => Err("  error: a line is air KIND MASK, put BYTES, skip or take DRAW"),
         },
     )
 }

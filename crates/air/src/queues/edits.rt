@@ -137,7 +137,7 @@ impl Queue {
     }
 
     /// The k-th PDU from the oldest, counted from 0, and its age.
-    pub fn get(&self, k: usize) -> Option<(&[u8], u8)>
+    pub(crate) fn get(&self, k: usize) -> Option<(&[u8], u8)>
         ensures { λ r. ⌜ mapped (λ w. record { pdu = now (w .0); age = w .1 }) r ≡ nth (waits (now (self .entry))) k ⌝ }
     {
         if k >= self.held {

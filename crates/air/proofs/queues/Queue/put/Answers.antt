@@ -22,7 +22,7 @@ pub returns-then-not-carries : need.returns-then-not-carries
 returns-then-not-carries c =
     let q = c .grow-older .last .self in
     let after : waits q ≡ put-in (c .args .pdu .now) (waits (c .args .self .now)) =
-    sym (newest-short (waits q) (omega (arith, length-waits q, q .full .1)))
+    sym (newest-short (waits q) (omega (arith, length-waits q, q .bounded .1)))
     ∙ ap newest (c .grow-older .ensures .after ∙ sym (after-put-no (c .args .pdu .now) (waits (c .args .self .now)) (sym (c .if-not-carries .ensures tt)))) in
     record { after = after; meaning = within-put (c .args .pdu .now) (waits (c .args .self .now)) (waits q) after }
 
@@ -35,7 +35,7 @@ push-requires c κs =
       room =
           elim (c .if-self-eq-CAPACITY .came) [
             | then-self-eq-CAPACITY w ↦ subst Room (sym (w .self-is)) (omega (arith, w .remove .ensures .held, w .if-self-eq-CAPACITY .taken))
-            | else-self-eq-CAPACITY w ↦ subst Room (sym (w .self-is)) (omega (arith, w .if-self-eq-CAPACITY .left, q .full .1))
+            | else-self-eq-CAPACITY w ↦ subst Room (sym (w .self-is)) (omega (arith, w .if-self-eq-CAPACITY .left, q .bounded .1))
           ];
       carried = let long = and-parts _ _ (sym (c .if-not-carries .ensures tt)) in (leb-true _ _ (long .0), leb-true _ _ (long .1));
       old =
@@ -52,7 +52,7 @@ returns c =
     let added : waits (c .if-self-eq-CAPACITY .self) ++ new ∷ [] ≡ newest (waits q ++ new ∷ []) =
     elim (c .if-self-eq-CAPACITY .came) [
       | then-self-eq-CAPACITY w ↦ ap (λ q. waits q ++ new ∷ []) (w .self-is) ∙ ap (λ ws. ws ++ new ∷ []) (w .remove .ensures .after) ∙ newest-full (waits q) new (length-waits q ∙ w .if-self-eq-CAPACITY .taken)
-      | else-self-eq-CAPACITY w ↦ ap (λ q. waits q ++ new ∷ []) (w .self-is) ∙ newest-room (waits q) new (omega (arith, length-waits q, w .if-self-eq-CAPACITY .left, q .full .1))
+      | else-self-eq-CAPACITY w ↦ ap (λ q. waits q ++ new ∷ []) (w .self-is) ∙ newest-room (waits q) new (omega (arith, length-waits q, w .if-self-eq-CAPACITY .left, q .bounded .1))
     ] in
     let after : waits (c .push .last .self) ≡ put-in (c .args .pdu .now) (waits (c .args .self .now)) =
     c .push .ensures ∙ added ∙ ap (λ ws. newest (ws ++ new ∷ [])) (c .grow-older .ensures .after)

@@ -16,13 +16,13 @@ ghost-self c =
     let ys = c .rotate-left .last .self in
     let k = c .args .k in
     let turn = c .rotate-left .ensures in
-    let fits : q .held ≤ length (q .entries) = omega (arith, q .full .0, q .full .1) in
+    let fits : q .held ≤ length (q .entries) = omega (arith, q .bounded .0, q .bounded .1) in
     let front : take (q .held - 1) (putMid k (q .held - k) (q .entries) ys) ≡ removed (take (q .held) (q .entries)) k =
     take-rotated (q .entries) ys k (q .held) (c .pre) fits (turn .len) (turn .places) in
     let within : k < length (take (q .held) (q .entries)) = omega (arith, length-take-le (q .held) (q .entries) fits) in (
       q .room,
       (
-        (length-rotated (q .entries) ys k (q .held) (c .pre) fits (turn .len) (turn .places) ∙ q .full .0, omega (arith, q .full .1)),
+        (length-rotated (q .entries) ys k (q .held) (c .pre) fits (turn .len) (turn .places) ∙ q .bounded .0, omega (arith, q .bounded .1)),
         (
           each-rotated (q .entries) ys k (q .held) (c .pre) fits (turn .len) (turn .places) (λ e. e .place < capacity) (q .placed),
           (
@@ -40,7 +40,7 @@ pub returns : need.returns
 returns c =
     let q = c .args .self .now in
     let turn = c .rotate-left .ensures in
-    let fits : q .held ≤ length (q .entries) = omega (arith, q .full .0, q .full .1) in
+    let fits : q .held ≤ length (q .entries) = omega (arith, q .bounded .0, q .bounded .1) in
     let front = take-rotated (q .entries) (c .rotate-left .last .self) (c .args .k) (q .held) (c .pre) fits (turn .len) (turn .places) in
     record {
       after = ap (map (waiting-at (q .store))) front ∙ map-removed (waiting-at (q .store)) (take (q .held) (q .entries)) (c .args .k);
