@@ -1,0 +1,5 @@
+pub mod Meaning
+pub mod Queues
+pub mod Waits
+pub mod Kept
+pub mod Fading
