@@ -14,6 +14,7 @@ pub mod Receiving
 pub mod Reordering
 pub mod Links
 pub mod Runs
+pub mod Delivery
 pub mod Series
 pub mod CutInThree
 pub mod LossyPool
