@@ -10,7 +10,8 @@ use lib.ListN.{length}
 use Rattle.protocol.proofs.Seeks.{seek-from, seek-to, seek-found, seek-before, seek-least}
 use Rattle.protocol.specs.Searching.{seek}
 use Rattle.protocol.specs.Sending as near
-use Rattle.std.proofs.shelf.Tests.{both-ways, cases-bool, cases-order, ltb-true, lt-ltb, le-ltb, not-from-true, not-false}
+use Rattle.std.proofs.shelf.Tests.{both-ways, cases-bool, cases-order, ltb-true, lt-ltb, le-ltb, not-from-true, not-from-false, not-false}
+use Rattle.std.proofs.shelf.Ways.{same-from-decides}
 
 -- a search ends at k, if nothing before k passes, and k does unless it is the end
 pub seek-is : (test : ℕ → Bool) (n i k : ℕ) → i ≤ k → k ≤ i + n → ((j : ℕ) → i ≤ j → j < k → test j ≡ false)
@@ -52,3 +53,37 @@ module _ (test : near.Mark → Bool) (s : near.Sdu) where
       go : (near.has test s ≡ true) ⊎ (near.has test s ≡ false) → near.has test s ≡ false
       go (inl e) = absurd (both-ways _ (none (near.byte-from test s 0)) (has-found e .1))
       go (inr e) = e
+
+-- two SDUs of one length have such a byte both or neither, if the test does not tell their marks apart
+pub has-same : (test : near.Mark → Bool) (s t : near.Sdu) → length (s .bytes) ≡ length (t .bytes)
+    → ((i : ℕ) → test (s .mark i) ≡ test (t .mark i)) → near.has test s ≡ near.has test t
+has-same test s t long same =
+    same-from-decides (near.has test s) (near.has test t)
+    (λ h. has-at test t (near.byte-from test s 0) (omega (arith, long, has-found test s h .0)) (sym (same _) ∙ has-found test s h .1),
+    λ h. has-at test s (near.byte-from test t 0) (omega (arith, long, has-found test t h .0)) (same _ ∙ has-found test t h .1))
+    (λ h. h, λ h. h)
+
+-- some byte of it was sent
+abbrev pub begun : near.Sdu → Bool
+begun s = near.has (λ m. not (near.is-unsent m)) s
+
+pub not-begun : (s : near.Sdu) → ((i : ℕ) → s .mark i ≡ near.unsent) → begun s ≡ false
+not-begun s none = has-none (λ m. not (near.is-unsent m)) s (λ i. ap (λ m. not (near.is-unsent m)) (none i))
+
+pub begun-same : (s t : near.Sdu) → s .bytes ≡ t .bytes → ((i : ℕ) → near.is-unsent (s .mark i) ≡ near.is-unsent (t .mark i))
+    → begun s ≡ begun t
+begun-same s t bytes same = has-same (λ m. not (near.is-unsent m)) s t (ap length bytes) (λ i. ap not (same i))
+
+-- `top` is one past the SDUs that were begun
+module _ (n : near.Near) where
+  pub top-from : n .TX-Next-Ack ≤ near.top n
+  top-from = seek-from (λ x. not (begun (n .sdu x))) near.window-size (n .TX-Next-Ack)
+
+  pub top-begun : (x : ℕ) → n .TX-Next-Ack ≤ x → x < near.top n → begun (n .sdu x) ≡ true
+  top-begun x lo hi = not-false _ (seek-before (λ x. not (begun (n .sdu x))) near.window-size (n .TX-Next-Ack) x lo hi)
+
+  pub top-is : (k : ℕ) → n .TX-Next-Ack ≤ k → k ≤ n .TX-Next-Ack + 16
+      → ((x : ℕ) → n .TX-Next-Ack ≤ x → x < k → begun (n .sdu x) ≡ true) → begun (n .sdu k) ≡ false → near.top n ≡ k
+  top-is k lo hi before at =
+      seek-is (λ x. not (begun (n .sdu x))) near.window-size (n .TX-Next-Ack) k lo hi
+      (λ x l h. not-from-true _ (before x l h)) (λ l. not-from-false _ at)
