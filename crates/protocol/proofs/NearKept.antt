@@ -42,10 +42,10 @@ near-new =
 
 module _ (acc : List Bytes) (n : near.Near) (sound : Near-sound acc n) where
   -- from `top` on, nothing was sent
-  above-top : (x i : ℕ) → near.top n ≤ x → n .sdu x .mark i ≡ near.unsent
+  pub above-top : (x i : ℕ) → near.top n ≤ x → n .sdu x .mark i ≡ near.unsent
   above-top x i lo = ⊎-elim (λ l. sound .unbegun x i lo l) (λ l. ap (λ s. s .mark i) (sound .beyond x l)) (cases-lt x (n .TX-Next))
 
-  top-not-begun : begun (n .sdu (near.top n)) ≡ false
+  pub top-not-begun : begun (n .sdu (near.top n)) ≡ false
   top-not-begun = not-begun (n .sdu (near.top n)) (λ i. above-top (near.top n) i (omega arith))
 
 -- giving a packet ---------------------------------------------------------------------------------------------------
