@@ -1,0 +1,140 @@
+-- A near end that spends a grant stays sound, and sends a true part of an SDU.
+use mathlib.Core.Bool.{Bool, true, false, cond, not, _&&_}
+use mathlib.Core.List.{List, [], _∷_, _++_}
+use mathlib.Core.Logic.{_⊎_, inl, inr, ⊎-elim}
+use mathlib.Core.Path.{_≡_, refl, sym, _∙_, ap, subst}
+use Prim.Native.Nat.{ℕ, zero, suc, _+_, _-_, _%_, min, _<_, _≤_}
+use native.Mathlib.Omega.{arith}
+use lib.Dec.{ltb, leb, eqb}
+use lib.ListN.{length, take, drop, getD, length-drop, length-append}
+use Rattle.protocol.proofs.Invariants.{Packets, packet, sdu, Part-of, Near-sound}
+use Rattle.protocol.proofs.Marks.{seek-is, seek-past, has-found, has-at, has-none, begun, not-begun, begun-same, top-from, top-begun, top-is}
+use Rattle.protocol.proofs.NearKept.{above-top, top-not-begun}
+use Rattle.protocol.proofs.Seeks.{seek-from, seek-to, seek-found, seek-before, seek-least, update-same, update-other}
+use Rattle.protocol.specs.Bytes.{Bytes}
+use Rattle.protocol.specs.Numbers.{sn-modulus}
+use Rattle.protocol.specs.Pdus.{Segment, Amd, amd, so-field, encode, encode-pdcp}
+use Rattle.protocol.specs.Receiving as far
+use Rattle.protocol.specs.Searching.{seek, update}
+use Rattle.protocol.specs.Sending as near
+use Rattle.protocol.specs.Settings.{Settings}
+use Rattle.std.proofs.shelf.Lists.{length-take-le}
+use Rattle.std.proofs.shelf.Tests.{both-ways, cases-bool, cases-eq, cases-lt, eq-eqb, eqb-true, eqb-false, cond-true, cond-false, false≢true, ltb-true, lt-ltb, le-leb, le-ltb, and-from, not-from-true}
+use Rattle.std.proofs.shelf.Ways.{tells}
+use Rattle.std.specs.declared.option.Option.{Option}
+use Rattle.std.specs.declared.option.Option.the-variants.{Some, None}
+
+-- the PDU of some bytes -----------------------------------------------------------------------------------------------
+
+segment-offset : (from size long : ℕ) → far.offset (near.segment-at from size long) ≡ from
+segment-offset from size long = grind (arith, tells)
+
+segment-end : (from size long : ℕ) → far.marks-end (near.segment-at from size long) ≡ eqb (from + size) long
+segment-end from size long = grind (arith, tells)
+
+-- a header is as long as a run allows for
+segment-header : (from size long : ℕ) → 2 + length (so-field (near.segment-at from size long)) ≡ cond (eqb from 0) 2 4
+segment-header from size long = grind (arith, tells)
+
+abbrev pdu-of : Bool → Bytes → ℕ → ℕ → ℕ → Amd
+pdu-of poll bytes x from size =
+    record { poll = poll; sn = x % sn-modulus; segment = near.segment-at from size (length bytes); payload = take size (drop from bytes) }
+
+module _ (poll : Bool) (bytes : Bytes) (x from size : ℕ) (some : 1 ≤ size) (inside : from + size ≤ length bytes) where
+  part-long : length (take size (drop from bytes)) ≡ size
+  part-long = length-take-le size (drop from bytes) (omega (arith, inside, length-drop from bytes))
+
+  part-end : far.data-end (pdu-of poll bytes x from size) ≡ from + size
+  part-end = omega (arith, part-long, segment-offset from size (length bytes))
+
+  part-is : Part-of bytes x (pdu-of poll bytes x from size)
+  part-is =
+      record {
+        number = refl;
+        some = omega (arith, some, part-long);
+        inside = omega (arith, inside, part-end);
+        true-bytes = cc (part-long, segment-offset from size (length bytes));
+        at-end = λ e. part-end ∙ eqb-true (from + size) (length bytes) (sym (segment-end from size (length bytes)) ∙ e);
+        not-at-end = λ e. let d = eqb-false (from + size) (length bytes) (sym (segment-end from size (length bytes)) ∙ e) in omega (arith, d, inside, part-end);
+      }
+
+  part-size : length (encode (amd (pdu-of poll bytes x from size))) ≡ cond (eqb from 0) 2 4 + size
+  part-size =
+      omega (arith, length-append (so-field (near.segment-at from size (length bytes))) (take size (drop from bytes)), part-long, segment-header from size (length bytes))
+
+-- a run that is served ------------------------------------------------------------------------------------------------
+
+-- it lies in an SDU of the window, which is the first that was not begun or one before, and fits the grant
+record Fit-run (n : near.Near) (g : ℕ) (run : near.Run) : Type 0 where
+  low : n .TX-Next-Ack ≤ run .count
+  high : run .count < n .TX-Next
+  begun-to : run .count ≤ near.top n
+  some : 1 ≤ run .size
+  inside : run .from + run .size ≤ length (n .sdu (run .count) .bytes)
+  fits : cond (eqb (run .from) 0) 2 4 + run .size ≤ g
+
+run-lengths : (test : near.Mark → Bool) (s : near.Sdu) (g : ℕ) → near.has test s ≡ true → 5 ≤ g
+    → let from = near.byte-from test s 0 in
+    let size = near.run-from test s from g in
+    (1 ≤ size) × (from + size ≤ length (s .bytes)) × (cond (eqb from 0) 2 4 + size ≤ g)
+run-lengths test s g h enough =
+    over (near.byte-from test s 0) (near.byte-from (λ m. not (test m)) s (near.byte-from test s 0)) (length (s .bytes)) (h′ .0)
+    (seek-past (λ j. not (test (s .mark j))) (length (s .bytes) - near.byte-from test s 0) (near.byte-from test s 0) (omega (arith, h′ .0)) (not-from-true _ (h′ .1)))
+    (seek-to (λ j. not (test (s .mark j))) (length (s .bytes) - near.byte-from test s 0) (near.byte-from test s 0))
+  where
+    h′ : (near.byte-from test s 0 < length (s .bytes)) × (test (s .mark (near.byte-from test s 0)) ≡ true)
+    h′ = has-found test s h
+    over : (from end long : ℕ) → from < long → from < end → end ≤ from + (long - from)
+        → let size = min (end - from) (g - cond (eqb from 0) 2 4) in
+        (1 ≤ size) × (from + size ≤ long) × (cond (eqb from 0) 2 4 + size ≤ g)
+    over from end long a b c = go (eqb from 0)
+      where
+        go : (z : Bool) → let size = min (end - from) (g - cond z 2 4) in
+            (1 ≤ size) × (from + size ≤ long) × (cond z 2 4 + size ≤ g)
+        go true = (omega (arith, a, b, c, enough), omega (arith, a, b, c, enough), omega (arith, a, b, c, enough))
+        go false = (omega (arith, a, b, c, enough), omega (arith, a, b, c, enough), omega (arith, a, b, c, enough))
+
+module _ (acc : List Bytes) (n : near.Near) (g : ℕ) (sound : Near-sound acc n) (enough : 5 ≤ g) where
+  -- from TX-Next on there are no bytes
+  in-window : (test : near.Mark → Bool) (x : ℕ) → near.has test (n .sdu x) ≡ true → x < n .TX-Next
+  in-window test x h = ⊎-elim (λ l. l) (λ l. absurd (both-ways _ (ap (near.has test) (sound .beyond x l)) h)) (cases-lt x (n .TX-Next))
+
+  run-fits : (new : Bool) (test : near.Mark → Bool) (x : ℕ) → near.has test (n .sdu x) ≡ true → n .TX-Next-Ack ≤ x → x ≤ near.top n
+      → Fit-run n g (near.run-of new test n g x)
+  run-fits new test x h lo hi =
+      let l = run-lengths test (n .sdu x) g h enough in
+      record { low = lo; high = in-window test x h; begun-to = hi; some = l .0; inside = l .1; fits = l .2 }
+
+  -- what is pending was begun
+  pending-begun : (x : ℕ) → near.has near.is-pending (n .sdu x) ≡ true → x ≤ near.top n
+  pending-begun x h = ⊎-elim (λ l. omega (arith, l)) (λ l. absurd (both-ways _ (ap near.is-pending (above-top acc n sound x _ l)) (has-found near.is-pending (n .sdu x) h .1))) (cases-lt x (near.top n))
+
+  -- an SDU of which nothing was sent has unsent bytes
+  top-unsent : near.top n < n .TX-Next → near.has near.is-unsent (n .sdu (near.top n)) ≡ true
+  top-unsent l =
+      has-at near.is-unsent (n .sdu (near.top n)) 0 (omega (arith, ap length (sound .bytes (near.top n) (top-from n) l)))
+      (ap near.is-unsent (above-top acc n sound (near.top n) 0 (omega arith)))
+
+  unsent-begun : near.has near.is-unsent (n .sdu (near.count-with near.is-unsent n)) ≡ true → near.count-with near.is-unsent n ≤ near.top n
+  unsent-begun h =
+      ⊎-elim (λ l. seek-least (λ x. near.has near.is-unsent (n .sdu x)) near.window-size (n .TX-Next-Ack) (near.top n) (top-from n) (top-unsent l))
+      (λ l. omega (arith, l, in-window near.is-unsent (near.count-with near.is-unsent n) h)) (cases-lt (near.top n) (n .TX-Next))
+
+  found : (test : near.Mark → Bool) → ltb (near.count-with test n) (n .TX-Next-Ack + near.window-size) ≡ true
+      → near.has test (n .sdu (near.count-with test n)) ≡ true
+  found test l = seek-found (λ x. near.has test (n .sdu x)) near.window-size (n .TX-Next-Ack) (ltb-true _ _ l)
+
+  from-window : (test : near.Mark → Bool) → n .TX-Next-Ack ≤ near.count-with test n
+  from-window test = seek-from (λ x. near.has test (n .sdu x)) near.window-size (n .TX-Next-Ack)
+
+  served-fits : (run : near.Run) → near.served n g ≡ Some run → Fit-run n g run
+  served-fits run =
+      go (ltb (near.count-with near.is-pending n) (n .TX-Next-Ack + near.window-size)) (ltb (near.count-with near.is-unsent n) (n .TX-Next-Ack + near.window-size))
+      (λ t. let h = found near.is-pending t in run-fits false near.is-pending (near.count-with near.is-pending n) h (from-window near.is-pending) (pending-begun _ h))
+      (λ t. let h = found near.is-unsent t in run-fits true near.is-unsent (near.count-with near.is-unsent n) h (from-window near.is-unsent) (unsent-begun h))
+    where
+      go : {again new : near.Run} (a b : Bool) → (a ≡ true → Fit-run n g again) → (b ≡ true → Fit-run n g new)
+          → cond a (Some again) (cond b (Some new) None) ≡ Some run → Fit-run n g run
+      go {again} true b p q e = let k : again ≡ run = cc in subst (Fit-run n g) k (p refl)
+      go {again} {new} false true p q e = let k : new ≡ run = cc in subst (Fit-run n g) k (q refl)
+      go false false p q e = let z : _≡_ {A = ℕ} 0 1 = cc in absurd (omega arith)
