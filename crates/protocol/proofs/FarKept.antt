@@ -1,0 +1,165 @@
+-- The far end of RLC stays sound, step by step, and completes only SDUs that are true.
+use mathlib.Core.Bool.{Bool, true, false, cond, not, _&&_, _||_}
+use mathlib.Core.List.{List, [], _∷_, _++_}
+use mathlib.Core.Logic.{_⊎_, inl, inr, ⊎-elim}
+use mathlib.Core.Path.{_≡_, refl, sym, _∙_, ap, subst}
+use Prim.Native.Nat.{ℕ, zero, suc, _+_, _-_, _%_, _<_, _≤_, max}
+use native.Mathlib.Nat.{le-max-left, le-max-right, max-le}
+use native.Mathlib.Omega.{arith}
+use lib.Dec.{ltb, leb, eqb}
+use lib.ListN.{length, getD}
+use Rattle.protocol.specs.Bytes.{Bytes}
+use Rattle.protocol.specs.Numbers.{sn-modulus}
+use Rattle.protocol.specs.Pdus.{Amd, encode-pdcp}
+use Rattle.protocol.specs.Receiving as far
+use Rattle.protocol.specs.Searching.{seek, update}
+use Rattle.protocol.specs.Settings.{Settings}
+use Rattle.protocol.specs.Timers.{Timer, stopped, running, endless, runs, runs-out, ticked, stopped-if}
+use Rattle.protocol.proofs.Invariants.{Packets, sdu, Part-of, Partial-sound, Far-sound}
+use Rattle.protocol.proofs.Partials.{nothing-sound, received-sound, complete-bytes, complete-discards}
+use Rattle.protocol.proofs.Seeks.{seek-from, seek-to, seek-found, seek-before, update-same, update-other}
+use Rattle.std.proofs.shelf.Lists.{getD-append-left, length-push}
+use Rattle.std.proofs.shelf.Tests.{both-ways, cases-eq, cases-lt, cond-true, cond-false, eqb-true, eqb-false, leb-false, lt-ltb, le-ltb, not-true, not-false, or-parts}
+
+-- what a sound far end is but for its timer. In a step it may not yet be known that the counts outside of `Known`
+-- are not complete.
+pub record Counts-sound (Known : ℕ → Type 0) (acc : List Bytes) (next highest status : ℕ) (sdus : ℕ → far.Partial) : Type 0 where
+  pub status-from : next ≤ status
+  pub status-to : status ≤ highest
+  pub window : highest ≤ next + 16
+  pub seen : highest ≤ length acc
+  pub below : (x : ℕ) → x < next → sdus x ≡ far.complete-sdu
+  pub lowest : Known next → far.complete (sdus next) ≡ false
+  pub at-status : Known status → far.complete (sdus status) ≡ false
+  pub beyond : (x : ℕ) → highest ≤ x → sdus x ≡ far.nothing-held
+  pub true-sdus : (x : ℕ) → next ≤ x → x < highest → Partial-sound (sdu acc x) (sdus x)
+
+abbrev Between : (ℕ → Type 0) → List Bytes → far.Far → Type 0
+Between Known acc f = Counts-sound Known acc (f .RX-Next) (f .RX-Next-Highest) (f .RX-Highest-Status) (f .sdu)
+
+abbrev Sound-counts : List Bytes → far.Far → Type 0
+Sound-counts = Between (λ x. Unit {0})
+
+counts-of : {acc : List Bytes} {f : far.Far} → Far-sound acc f → Sound-counts acc f
+counts-of h =
+    record {
+      status-from = h .status-from;
+      status-to = h .status-to;
+      window = h .window;
+      seen = h .seen;
+      below = h .below;
+      lowest = λ k. h .lowest;
+      at-status = λ k. h .status;
+      beyond = h .beyond;
+      true-sdus = h .true-sdus;
+    }
+
+-- the trigger lies in what was seen of the window
+abbrev Trigger-sound : far.Far → Type 0
+Trigger-sound f =
+    runs (f .t-Reassembly) ≡ true → (f .RX-Next ≤ f .RX-Next-Status-Trigger) × (f .RX-Next-Status-Trigger ≤ f .RX-Next-Highest)
+
+sound-of : {acc : List Bytes} {f : far.Far} → Sound-counts acc f → Trigger-sound f → Far-sound acc f
+sound-of h trigger =
+    record {
+      status-from = h .status-from;
+      status-to = h .status-to;
+      window = h .window;
+      seen = h .seen;
+      below = h .below;
+      lowest = h .lowest tt;
+      status = h .at-status tt;
+      beyond = h .beyond;
+      trigger = trigger;
+      true-sdus = h .true-sdus;
+    }
+
+-- packets -------------------------------------------------------------------------------------------------------------
+
+pub far-new : Far-sound [] far.new-far
+far-new =
+    record {
+      status-from = omega arith;
+      status-to = omega arith;
+      window = omega arith;
+      seen = omega arith;
+      below = λ x l. absurd (omega (arith, l));
+      lowest = refl;
+      status = refl;
+      beyond = λ x l. refl;
+      trigger = λ r. absurd (both-ways false refl r);
+      true-sdus = λ x lo hi. absurd (omega (arith, hi));
+    }
+
+-- a packet more changes no earlier SDU
+pub sdu-given : (acc : List Bytes) (p : Bytes) (x : ℕ) → x < length acc → sdu (acc ++ p ∷ []) x ≡ sdu acc x
+sdu-given acc p x l = ap (encode-pdcp (x % sn-modulus)) (getD-append-left acc (p ∷ []) [] x l)
+
+pub far-given : (acc : List Bytes) (p : Bytes) (f : far.Far) → Far-sound acc f → Far-sound (acc ++ p ∷ []) f
+far-given acc p f h =
+    sound-of
+    (record {
+      status-from = h .status-from;
+      status-to = h .status-to;
+      window = h .window;
+      seen = omega (arith, h .seen, length-push acc p);
+      below = h .below;
+      lowest = λ k. h .lowest;
+      at-status = λ k. h .status;
+      beyond = h .beyond;
+      true-sdus = λ x lo hi. subst (λ bytes. Partial-sound bytes (f .sdu x)) (sym (sdu-given acc p x (omega (arith, hi, h .seen)))) (h .true-sdus x lo hi);
+    })
+    (h .trigger)
+
+pub sdu-short : (acc : List Bytes) (x : ℕ) → Packets acc → x < length acc → length (sdu acc x) ≤ 502
+sdu-short acc x packets l = omega (arith, packets .short x l .1)
+
+-- the steps ---------------------------------------------------------------------------------------------------------
+
+-- where a search for an incomplete count ends
+pub record Lands (f : far.Far) (from to : ℕ) : Type 0 where
+  pub grows : from ≤ to
+  pub stays : to ≤ f .RX-Next-Highest
+  pub incomplete : far.complete (f .sdu to) ≡ false
+  pub between : (y : ℕ) → from ≤ y → y < to → far.complete (f .sdu y) ≡ true
+
+-- the counts that were not seen are not complete
+unseen-open : (f : far.Far) → ((y : ℕ) → f .RX-Next-Highest ≤ y → f .sdu y ≡ far.nothing-held) → (y : ℕ)
+    → f .RX-Next-Highest ≤ y → far.complete (f .sdu y) ≡ false
+unseen-open f beyond y l = ap far.complete (beyond y l)
+
+lands-from : (f : far.Far) (x : ℕ) → ((y : ℕ) → f .RX-Next-Highest ≤ y → f .sdu y ≡ far.nothing-held) → x ≤ f .RX-Next-Highest
+    → Lands f x (far.incomplete-from f x)
+lands-from f x beyond l =
+    record {
+      grows = seek-from test n x;
+      stays = to;
+      incomplete = ⊎-elim (λ h. not-true _ (seek-found test n x (omega (arith, h, l)))) (unseen-open f beyond (far.incomplete-from f x))
+          (cases-lt (far.incomplete-from f x) (f .RX-Next-Highest));
+      between = λ y lo hi. not-false _ (seek-before test n x y lo hi);
+    }
+  where
+    test : ℕ → Bool
+    test y = not (far.complete (f .sdu y))
+
+    n : ℕ
+    n = f .RX-Next-Highest - x
+
+    to : far.incomplete-from f x ≤ f .RX-Next-Highest
+    to = omega (arith, seek-to test n x, l)
+
+-- a variable that moves past x lands on a count that is not complete
+moved-lands : (x : ℕ) (f : far.Far) (v : ℕ) → ((y : ℕ) → f .RX-Next-Highest ≤ y → f .sdu y ≡ far.nothing-held)
+    → x ≤ f .RX-Next-Highest → v ≤ f .RX-Next-Highest → ((v ≡ x → ⊥) → far.complete (f .sdu v) ≡ false)
+    → Lands f v (far.moved-past x f v)
+moved-lands x f v beyond lx lv incomplete = go (far.complete (f .sdu x)) refl (eqb v x) refl
+  where
+    here : far.complete (f .sdu v) ≡ false → Lands f v v
+    here e = record { grows = omega arith; stays = lv; incomplete = e; between = λ y lo hi. absurd (omega (arith, lo, hi)) }
+
+    go : (done : Bool) → far.complete (f .sdu x) ≡ done → (same : Bool) → eqb v x ≡ same
+        → Lands f v (cond (done && same) (far.incomplete-from f x) v)
+    go true d true s = subst (λ w. Lands f w (far.incomplete-from f x)) (sym (eqb-true v x s)) (lands-from f x beyond lx)
+    go true d false s = here (incomplete (eqb-false v x s))
+    go false d true s = here (ap (λ w. far.complete (f .sdu w)) (eqb-true v x s) ∙ d)
+    go false d false s = here (incomplete (eqb-false v x s))
