@@ -163,3 +163,94 @@ moved-lands x f v beyond lx lv incomplete = go (far.complete (f .sdu x)) refl (e
     go true d false s = here (incomplete (eqb-false v x s))
     go false d true s = here (ap (λ w. far.complete (f .sdu w)) (eqb-true v x s) ∙ d)
     go false d false s = here (incomplete (eqb-false v x s))
+
+-- 1: the new bytes are true ones. Count x may be complete now.
+kept-counts : (acc : List Bytes) (f : far.Far) (x : ℕ) (a : Amd) → Far-sound acc f → f .RX-Next ≤ x → x < f .RX-Next + 16
+    → x < length acc → Partial-sound (sdu acc x) (far.received a (f .sdu x)) → Between (λ y. y ≡ x → ⊥) acc (far.kept x a f)
+kept-counts acc f x a h lo hi l new =
+    record {
+      status-from = h .status-from;
+      status-to = omega (arith, h .status-to, le-max-left (f .RX-Next-Highest) (x + 1));
+      window = max-le (h .window) (omega (arith, hi));
+      seen = max-le (h .seen) (omega (arith, l));
+      below = λ y b. update-other (f .sdu) x _ y (λ e. omega (arith, b, e, lo)) ∙ h .below y b;
+      lowest = λ d. ap far.complete (update-other (f .sdu) x _ (f .RX-Next) d) ∙ h .lowest;
+      at-status = λ d. ap far.complete (update-other (f .sdu) x _ (f .RX-Highest-Status) d) ∙ h .status;
+      beyond = λ y b.
+          update-other (f .sdu) x _ y (λ e. omega (arith, b, e, le-max-right (f .RX-Next-Highest) (x + 1)))
+          ∙ h .beyond y (omega (arith, b, le-max-left (f .RX-Next-Highest) (x + 1)));
+      true-sdus = λ y b c. by-count y b (cases-eq y x);
+    }
+  where
+    old : (y : ℕ) → f .RX-Next ≤ y → (y < f .RX-Next-Highest) ⊎ (f .RX-Next-Highest ≤ y) → Partial-sound (sdu acc y) (f .sdu y)
+    old y b (inl c) = h .true-sdus y b c
+    old y b (inr c) = subst (Partial-sound (sdu acc y)) (sym (h .beyond y c)) (nothing-sound (sdu acc y))
+
+    by-count : (y : ℕ) → f .RX-Next ≤ y → (y ≡ x) ⊎ (y ≡ x → ⊥)
+        → Partial-sound (sdu acc y) (update (f .sdu) x (far.received a (f .sdu x)) y)
+    by-count y b (inl e) =
+        subst (λ z. Partial-sound (sdu acc z) (update (f .sdu) x (far.received a (f .sdu x)) z)) (sym e)
+        (subst (Partial-sound (sdu acc x)) (sym (update-same (f .sdu) x (far.received a (f .sdu x)))) new)
+    by-count y b (inr d) =
+        subst (Partial-sound (sdu acc y)) (sym (update-other (f .sdu) x (far.received a (f .sdu x)) y d))
+        (old y b (cases-lt y (f .RX-Next-Highest)))
+
+-- 2: RX-Next and RX-Highest-Status are past what is complete
+module _ (acc : List Bytes) (f : far.Far) (x : ℕ) (h : Between (λ y. y ≡ x → ⊥) acc f) (to : x < f .RX-Next-Highest) where
+  next-lands : Lands f (f .RX-Next) (far.advanced x f .RX-Next)
+  next-lands = moved-lands x f (f .RX-Next) (h .beyond) (omega (arith, to)) (omega (arith, h .status-from, h .status-to)) (h .lowest)
+
+  status-lands : Lands f (f .RX-Highest-Status) (far.advanced x f .RX-Highest-Status)
+  status-lands = moved-lands x f (f .RX-Highest-Status) (h .beyond) (omega (arith, to)) (h .status-to) (h .at-status)
+
+  -- what stands below the new RX-Next was complete
+  advanced-complete : (y : ℕ) → far.complete (far.advanced x f .sdu y) ≡ far.complete (f .sdu y)
+  advanced-complete y = ⊎-elim passed (λ l. ap far.complete (cond-false _ _ _ (le-ltb y _ l))) (cases-lt y (far.advanced x f .RX-Next))
+    where
+      old : y < far.advanced x f .RX-Next → (y < f .RX-Next) ⊎ (f .RX-Next ≤ y) → far.complete (f .sdu y) ≡ true
+      old l (inl b) = ap far.complete (h .below y b)
+      old l (inr b) = next-lands .between y b l
+
+      passed : y < far.advanced x f .RX-Next → far.complete (far.advanced x f .sdu y) ≡ far.complete (f .sdu y)
+      passed l = ap far.complete (cond-true _ _ _ (lt-ltb y _ l)) ∙ sym (old l (cases-lt y (f .RX-Next)))
+
+  still : (y : ℕ) → far.advanced x f .RX-Next ≤ y → far.advanced x f .sdu y ≡ f .sdu y
+  still y l = cond-false _ _ _ (le-ltb y _ l)
+
+  in-order : far.advanced x f .RX-Next ≤ far.advanced x f .RX-Highest-Status
+  in-order = ⊎-elim (λ l. absurd (not-before l)) (λ l. l) (cases-lt (far.advanced x f .RX-Highest-Status) (far.advanced x f .RX-Next))
+    where
+      not-before : far.advanced x f .RX-Highest-Status < far.advanced x f .RX-Next → ⊥
+      not-before l =
+          both-ways _ (status-lands .incomplete)
+          (next-lands .between (far.advanced x f .RX-Highest-Status) (omega (arith, h .status-from, status-lands .grows)) l)
+
+  advanced-counts : Sound-counts acc (far.advanced x f)
+  advanced-counts =
+      record {
+        status-from = in-order;
+        status-to = status-lands .stays;
+        window = omega (arith, h .window, next-lands .grows);
+        seen = h .seen;
+        below = λ y l. cond-true _ _ _ (lt-ltb y _ l);
+        lowest = λ k. ap far.complete (still _ (omega arith)) ∙ next-lands .incomplete;
+        at-status = λ k. ap far.complete (still _ in-order) ∙ status-lands .incomplete;
+        beyond = λ y l. still y (omega (arith, l, next-lands .stays)) ∙ h .beyond y l;
+        true-sdus = λ y lo hi.
+            subst (Partial-sound (sdu acc y)) (sym (still y lo)) (h .true-sdus y (omega (arith, lo, next-lands .grows)) hi);
+      }
+
+-- 3: a trigger that RX-Next has passed is given up
+reassembled-sound : (acc : List Bytes) (f : far.Far) → Sound-counts acc f
+    → (runs (f .t-Reassembly) ≡ true → f .RX-Next-Status-Trigger ≤ f .RX-Next-Highest) → Far-sound acc (far.reassembled f)
+reassembled-sound acc f h trigger = sound-of h (λ r. go _ refl r)
+  where
+    go : (stops : Bool)
+        → (leb (f .RX-Next-Status-Trigger) (f .RX-Next)
+        || (eqb (f .RX-Next-Status-Trigger) (f .RX-Next + 1) && not (far.has-hole (f .sdu (f .RX-Next))))) ≡ stops
+        → runs (stopped-if stops (f .t-Reassembly)) ≡ true
+        → (f .RX-Next ≤ f .RX-Next-Status-Trigger) × (f .RX-Next-Status-Trigger ≤ f .RX-Next-Highest)
+    go true e r = absurd (both-ways false refl r)
+    go false e r =
+        let ahead : f .RX-Next < f .RX-Next-Status-Trigger = leb-false _ _ (or-parts (leb (f .RX-Next-Status-Trigger) (f .RX-Next)) _ e .0) in
+        (omega (arith, ahead), trigger r)
