@@ -254,3 +254,188 @@ reassembled-sound acc f h trigger = sound-of h (λ r. go _ refl r)
     go false e r =
         let ahead : f .RX-Next < f .RX-Next-Status-Trigger = leb-false _ _ (or-parts (leb (f .RX-Next-Status-Trigger) (f .RX-Next)) _ e .0) in
         (omega (arith, ahead), trigger r)
+
+-- A change of timers and polls alone: the counts that matter and the SDUs are as they were.
+pub record Same-sdus (f g : far.Far) : Type 0 where
+  pub next-same : g .RX-Next ≡ f .RX-Next
+  pub highest-same : g .RX-Next-Highest ≡ f .RX-Next-Highest
+  pub sdus-same : (y : ℕ) → g .sdu y ≡ f .sdu y
+
+-- 4
+awaited-sound : (s : Settings) (low : ℕ) (acc : List Bytes) (f : far.Far) → Far-sound acc f
+    → Far-sound acc (far.awaited s low f) × Same-sdus f (far.awaited s low f)
+awaited-sound s low acc f h =
+    go (not (runs (f .t-Reassembly)) && (ltb (low + 1) (f .RX-Next-Highest) || (eqb (f .RX-Next-Highest) (low + 1) && far.has-hole (f .sdu low))))
+  where
+    waiting : far.Far
+    waiting = far.with-reassembly f (f .RX-Next-Highest) (running (s .t-Reassembly))
+
+    go : (starts : Bool) → Far-sound acc (cond starts waiting f) × Same-sdus f (cond starts waiting f)
+    go true = (
+      sound-of (counts-of h) (λ r. (omega (arith, h .status-from, h .status-to), omega arith)),
+      record { next-same = refl; highest-same = refl; sdus-same = λ y. refl },
+    )
+    go false = (h, record { next-same = refl; highest-same = refl; sdus-same = λ y. refl })
+
+-- 5
+answering-sound : (low : ℕ) (acc : List Bytes) (f : far.Far) → Far-sound acc f → Far-sound acc (far.answering low f)
+answering-sound low acc f h = sound-of (counts-of h) (h .trigger)
+
+reporting-sound : (acc : List Bytes) (f : far.Far) (r : far.Reporting) → Far-sound acc f → Far-sound acc (far.with-reporting f r)
+reporting-sound acc f r h = sound-of (counts-of h) (h .trigger)
+
+-- what a PDU that is not discarded leaves
+pub record Taken (acc : List Bytes) (x : ℕ) (a : Amd) (f g : far.Far) : Type 0 where
+  pub sound : Far-sound acc g
+  pub next-grows : f .RX-Next ≤ g .RX-Next
+  pub highest-is : g .RX-Next-Highest ≡ max (f .RX-Next-Highest) (x + 1)
+  -- a complete SDU gets no new byte
+  pub was-incomplete : far.complete (f .sdu x) ≡ false
+  pub completes : (y : ℕ) → far.complete (f .sdu y) ≡ true → far.complete (g .sdu y) ≡ true
+  pub no-other : (y : ℕ) → far.complete (g .sdu y) ≡ true
+      → (far.complete (f .sdu y) ≡ true) ⊎ ((y ≡ x) × (far.complete (far.received a (f .sdu x)) ≡ true))
+  pub completed : far.complete (far.received a (f .sdu x)) ≡ true
+      → (far.complete (g .sdu x) ≡ true) × (far.sdu-bytes (far.received a (f .sdu x)) ≡ sdu acc x)
+
+pub far-taken : (s : Settings) (acc : List Bytes) (f : far.Far) (x : ℕ) (a : Amd) → Far-sound acc f → f .RX-Next ≤ x
+    → far.discards f x a ≡ false → x < length acc → Part-of (sdu acc x) x a → Taken acc x a f (far.taken s x a f)
+far-taken s acc f x a h lo kept-on l part =
+    record {
+      sound = answering-sound (f .RX-Next) acc waits (later .0);
+      next-grows = omega (arith, next-lands acc g x mid to .grows, later .1 .next-same);
+      highest-is = later .1 .highest-same;
+      was-incomplete = not-complete;
+      completes = λ y c. changed y ∙ stays y c (cases-eq y x);
+      no-other = λ y c. which y (sym (changed y) ∙ c) (cases-eq y x);
+      completed = λ c. (changed x ∙ ap far.complete (update-same (f .sdu) x _) ∙ c, complete-bytes (sdu acc x) (far.received a (f .sdu x)) new c);
+    }
+  where
+    tests : (leb (f .RX-Next + 16) x ≡ false)
+        × (leb (far.data-end a) (far.missing-from (f .sdu x) (length (a .payload)) (far.offset (a .segment))) ≡ false)
+    tests = or-parts (leb (f .RX-Next + 16) x) _ kept-on
+
+    old : (x < f .RX-Next-Highest) ⊎ (f .RX-Next-Highest ≤ x) → Partial-sound (sdu acc x) (f .sdu x)
+    old (inl c) = h .true-sdus x lo c
+    old (inr c) = subst (Partial-sound (sdu acc x)) (sym (h .beyond x c)) (nothing-sound (sdu acc x))
+
+    was : Partial-sound (sdu acc x) (f .sdu x)
+    was = old (cases-lt x (f .RX-Next-Highest))
+
+    not-complete : far.complete (f .sdu x) ≡ false
+    not-complete = go (far.complete (f .sdu x)) refl
+      where
+        go : (b : Bool) → far.complete (f .sdu x) ≡ b → b ≡ false
+        go false e = refl
+        go true e = absurd (both-ways _ (tests .1) (complete-discards (sdu acc x) x a (f .sdu x) was part e))
+
+    new : Partial-sound (sdu acc x) (far.received a (f .sdu x))
+    new = received-sound (sdu acc x) x a (f .sdu x) was part
+
+    g : far.Far
+    g = far.kept x a f
+
+    mid : Between (λ y. y ≡ x → ⊥) acc g
+    mid = kept-counts acc f x a h lo (leb-false _ _ (tests .0)) l new
+
+    to : x < g .RX-Next-Highest
+    to = omega (arith, le-max-right (f .RX-Next-Highest) (x + 1))
+
+    moved : far.Far
+    moved = far.advanced x g
+
+    stopped-there : Far-sound acc (far.reassembled moved)
+    stopped-there =
+        reassembled-sound acc moved (advanced-counts acc g x mid to)
+        (λ r. omega (arith, h .trigger r .1, le-max-left (f .RX-Next-Highest) (x + 1)))
+
+    waits : far.Far
+    waits = far.awaited s (moved .RX-Next) (far.reassembled moved)
+
+    later : Far-sound acc waits × Same-sdus (far.reassembled moved) waits
+    later = awaited-sound s (moved .RX-Next) acc (far.reassembled moved) stopped-there
+
+    changed : (y : ℕ) → far.complete (waits .sdu y) ≡ far.complete (g .sdu y)
+    changed y = ap far.complete (later .1 .sdus-same y) ∙ advanced-complete acc g x mid to y
+
+    stays : (y : ℕ) → far.complete (f .sdu y) ≡ true → (y ≡ x) ⊎ (y ≡ x → ⊥) → far.complete (g .sdu y) ≡ true
+    stays y c (inl e) = absurd (both-ways _ not-complete (sym (ap (λ z. far.complete (f .sdu z)) e) ∙ c))
+    stays y c (inr d) = ap far.complete (update-other (f .sdu) x _ y d) ∙ c
+
+    which : (y : ℕ) → far.complete (g .sdu y) ≡ true → (y ≡ x) ⊎ (y ≡ x → ⊥)
+        → (far.complete (f .sdu y) ≡ true) ⊎ ((y ≡ x) × (far.complete (far.received a (f .sdu x)) ≡ true))
+    which y c (inl e) =
+        inr (e, sym (ap far.complete (ap (λ z. update (f .sdu) x (far.received a (f .sdu x)) z) e ∙ update-same (f .sdu) x _)) ∙ c)
+    which y c (inr d) = inl (sym (ap far.complete (update-other (f .sdu) x (far.received a (f .sdu x)) y d)) ∙ c)
+
+pub far-discarded : (acc : List Bytes) (f : far.Far) (a : Amd) → Far-sound acc f → Far-sound acc (far.discarded a f)
+far-discarded acc f a h = reporting-sound acc f _ h
+
+pub far-reported : (s : Settings) (acc : List Bytes) (f : far.Far) → Far-sound acc f → Far-sound acc (far.reported s f)
+far-reported s acc f h = sound-of (counts-of h) (h .trigger)
+
+-- a Tick -------------------------------------------------------------------------------------------------------------
+
+runs-from-out : (t : Timer) → runs-out t ≡ true → runs t ≡ true
+runs-from-out stopped e = e
+runs-from-out (running left) e = refl
+runs-from-out endless e = refl
+
+runs-before : (t : Timer) → runs (ticked t) ≡ true → runs t ≡ true
+runs-before stopped e = e
+runs-before (running left) e = refl
+runs-before endless e = refl
+
+-- the search for RX-Highest-Status begins at the trigger, which lies in what was seen of the window
+given-up-sound : (s : Settings) (acc : List Bytes) (f : far.Far) → Far-sound acc f → runs (f .t-Reassembly) ≡ true
+    → Far-sound acc (far.given-up s f) × Same-sdus f (far.given-up s f)
+given-up-sound s acc f h r = (
+  reporting-sound acc (far.answering (f .RX-Next) (later-state)) _ (answering-sound (f .RX-Next) acc later-state (later .0)),
+  record { next-same = later .1 .next-same; highest-same = later .1 .highest-same; sdus-same = later .1 .sdus-same },
+)
+  where
+    place : Lands f (f .RX-Next-Status-Trigger) (far.incomplete-from f (f .RX-Next-Status-Trigger))
+    place = lands-from f (f .RX-Next-Status-Trigger) (h .beyond) (h .trigger r .1)
+
+    g : far.Far
+    g = far.with-highest-status f (far.incomplete-from f (f .RX-Next-Status-Trigger))
+
+    given : Far-sound acc g
+    given =
+        sound-of
+        (record {
+          status-from = omega (arith, h .trigger r .0, place .grows);
+          status-to = place .stays;
+          window = h .window;
+          seen = h .seen;
+          below = h .below;
+          lowest = λ k. h .lowest;
+          at-status = λ k. place .incomplete;
+          beyond = h .beyond;
+          true-sdus = h .true-sdus;
+        })
+        (λ e. absurd (both-ways false refl e))
+
+    later-state : far.Far
+    later-state = far.awaited s (g .RX-Highest-Status) g
+
+    later : Far-sound acc later-state × Same-sdus g later-state
+    later = awaited-sound s (g .RX-Highest-Status) acc g given
+
+pub far-ticked : (s : Settings) (acc : List Bytes) (f : far.Far) → Far-sound acc f
+    → Far-sound acc (far.tick-far s f) × Same-sdus f (far.tick-far s f)
+far-ticked s acc f h = after (far.tick-reassembly s f) (go (runs-out (f .t-Reassembly)) refl)
+  where
+    go : (out : Bool) → runs-out (f .t-Reassembly) ≡ out
+        → let g = cond out (far.given-up s f) (far.with-reassembly f (f .RX-Next-Status-Trigger) (ticked (f .t-Reassembly))) in
+        Far-sound acc g × Same-sdus f g
+    go true e = given-up-sound s acc f h (runs-from-out (f .t-Reassembly) e)
+    go false e = (
+      sound-of (counts-of h) (λ r. h .trigger (runs-before (f .t-Reassembly) r)),
+      record { next-same = refl; highest-same = refl; sdus-same = λ y. refl },
+    )
+
+    after : (g : far.Far) → Far-sound acc g × Same-sdus f g → Far-sound acc (far.tick-prohibit g) × Same-sdus f (far.tick-prohibit g)
+    after g k = (
+      sound-of (counts-of (k .0)) (k .0 .trigger),
+      record { next-same = k .1 .next-same; highest-same = k .1 .highest-same; sdus-same = k .1 .sdus-same },
+    )
