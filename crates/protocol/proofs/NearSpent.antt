@@ -9,7 +9,7 @@ use lib.Dec.{ltb, leb, eqb}
 use lib.ListN.{length, take, drop, getD, length-drop, length-append}
 use Rattle.protocol.proofs.Invariants.{Packets, packet, sdu, Part-of, Near-sound}
 use Rattle.protocol.proofs.Marks.{seek-is, seek-past, has-found, has-at, has-none, begun, not-begun, begun-same, top-from, top-begun, top-is}
-use Rattle.protocol.proofs.NearKept.{above-top, top-not-begun}
+use Rattle.protocol.proofs.NearKept.{above-top, unbegun-unsent}
 use Rattle.protocol.proofs.Seeks.{seek-from, seek-to, seek-found, seek-before, seek-least, update-same, update-other}
 use Rattle.protocol.specs.Bytes.{Bytes}
 use Rattle.protocol.specs.Numbers.{sn-modulus}
@@ -109,15 +109,9 @@ module _ (acc : List Bytes) (n : near.Near) (g : ℕ) (sound : Near-sound acc n)
   pending-begun : (x : ℕ) → near.has near.is-pending (n .sdu x) ≡ true → x ≤ near.top n
   pending-begun x h = ⊎-elim (λ l. omega (arith, l)) (λ l. absurd (both-ways _ (ap near.is-pending (above-top acc n sound x _ l)) (has-found near.is-pending (n .sdu x) h .1))) (cases-lt x (near.top n))
 
-  -- an SDU of which nothing was sent has unsent bytes
-  top-unsent : near.top n < n .TX-Next → near.has near.is-unsent (n .sdu (near.top n)) ≡ true
-  top-unsent l =
-      has-at near.is-unsent (n .sdu (near.top n)) 0 (omega (arith, ap length (sound .bytes (near.top n) (top-from n) l)))
-      (ap near.is-unsent (above-top acc n sound (near.top n) 0 (omega arith)))
-
   unsent-begun : near.has near.is-unsent (n .sdu (near.count-with near.is-unsent n)) ≡ true → near.count-with near.is-unsent n ≤ near.top n
   unsent-begun h =
-      ⊎-elim (λ l. seek-least (λ x. near.has near.is-unsent (n .sdu x)) near.window-size (n .TX-Next-Ack) (near.top n) (top-from n) (top-unsent l))
+      ⊎-elim (λ l. seek-least (λ x. near.has near.is-unsent (n .sdu x)) near.window-size (n .TX-Next-Ack) (near.top n) (top-from n) (unbegun-unsent acc n sound (near.top n) (omega arith) l))
       (λ l. omega (arith, l, in-window near.is-unsent (near.count-with near.is-unsent n) h)) (cases-lt (near.top n) (n .TX-Next))
 
   found : (test : near.Mark → Bool) → ltb (near.count-with test n) (n .TX-Next-Ack + near.window-size) ≡ true
