@@ -97,3 +97,108 @@ acknowledge-if : (b : Bool) (s : near.Sdu)
     × (s .acknowledged ≡ true → cond b (near.acknowledge s) s .acknowledged ≡ true)
 acknowledge-if true s = (record { bytes = refl; unsent = λ i. settled-unsent (s .mark i) }, λ e. inr refl, λ e. refl)
 acknowledge-if false s = (record { bytes = refl; unsent = λ i. refl }, λ e. inl e, λ e. e)
+
+-- reading a status report ---------------------------------------------------------------------------------------------
+
+pub record Reported-kept (s : Settings) (acc : List Bytes) (n : near.Near) (ack : ℕ) (es : List Entry) : Type 0 where
+  pub sound : Near-sound acc (near.reported s ack es n)
+  pub same-next : near.reported s ack es n .TX-Next ≡ n .TX-Next
+  pub first-grows : n .TX-Next-Ack ≤ near.reported s ack es n .TX-Next-Ack
+  pub same-top : near.top (near.reported s ack es n) ≡ near.top n
+  pub was-reported : (x : ℕ) → near.reported s ack es n .sdu x .acknowledged ≡ true
+      → (n .sdu x .acknowledged ≡ true) ⊎ ((x < ack) × (near.named n es x ≡ false))
+  pub stays : (x : ℕ) → n .sdu x .acknowledged ≡ true → near.reported s ack es n .sdu x .acknowledged ≡ true
+
+module _ (s : Settings) (acc : List Bytes) (n : near.Near) (ack : ℕ) (es : List Entry) (sound : Near-sound acc n) (recent : ack ≤ n .TX-Next) where
+  -- an SDU before the window moves
+  abbrev read : ℕ → near.Sdu
+  read x = near.acknowledged-in n ack es x (near.considered-in n es x)
+
+  abbrev consider : ℕ → Bool
+  consider x = ltb x (n .TX-Next) && (not (n .sdu x .acknowledged) && near.named n es x)
+
+  abbrev settles : ℕ → Bool
+  settles x = ltb x ack && (not (near.named n es x) && not (near.has near.is-unsent (near.considered-in n es x)))
+
+  abbrev to : ℕ
+  to = seek (λ x. not (read x .acknowledged)) (n .TX-Next - n .TX-Next-Ack) (n .TX-Next-Ack)
+
+  considered-same : (x : ℕ) → Same-unsent (near.considered-in n es x) (n .sdu x)
+  considered-same x = considered-if (consider x) (near.named-byte n es x) (n .sdu x) .0
+
+  read-bytes : (x : ℕ) → read x .bytes ≡ n .sdu x .bytes
+  read-bytes x = acknowledge-if (settles x) (near.considered-in n es x) .0 .bytes ∙ considered-same x .bytes
+
+  read-unsent : (x i : ℕ) → near.is-unsent (read x .mark i) ≡ near.is-unsent (n .sdu x .mark i)
+  read-unsent x i = acknowledge-if (settles x) (near.considered-in n es x) .0 .unsent i ∙ considered-same x .unsent i
+
+  read-stays : (x : ℕ) → n .sdu x .acknowledged ≡ true → read x .acknowledged ≡ true
+  read-stays x e =
+      acknowledge-if (settles x) (near.considered-in n es x) .2 (considered-if (consider x) (near.named-byte n es x) (n .sdu x) .1 ∙ e)
+
+  -- what is newly acknowledged: all of it was sent
+  read-new : (x : ℕ) → read x .acknowledged ≡ true
+      → (n .sdu x .acknowledged ≡ true) ⊎ ((x < ack) × (near.named n es x ≡ false) × (near.has near.is-unsent (n .sdu x) ≡ false))
+  read-new x e = ⊎-elim (λ k. inl (sym (considered-if (consider x) (near.named-byte n es x) (n .sdu x) .1) ∙ k)) (λ k. inr (parts k)) (acknowledge-if (settles x) (near.considered-in n es x) .1 e)
+    where
+      parts : settles x ≡ true → (x < ack) × (near.named n es x ≡ false) × (near.has near.is-unsent (n .sdu x) ≡ false)
+      parts k =
+          let a = and-parts (ltb x ack) _ k in
+          let b = and-parts (not (near.named n es x)) _ (a .1) in (
+            ltb-true _ _ (a .0),
+            not-true _ (b .0),
+            sym (has-same near.is-unsent (near.considered-in n es x) (n .sdu x) (ap length (considered-same x .bytes)) (considered-same x .unsent)) ∙ not-true _ (b .1),
+          )
+
+  read-begun : (x : ℕ) → read x .acknowledged ≡ true → x < near.top n
+  read-begun x e =
+      ⊎-elim (λ k. sound .acknowledged x k)
+      (λ k. ⊎-elim (λ l. l) (λ l. absurd (both-ways _ (k .2) (unbegun-unsent acc n sound x l (omega (arith, k .0, recent))))) (cases-lt x (near.top n)))
+      (read-new x e)
+
+  read-beyond : (x : ℕ) → n .TX-Next ≤ x → read x ≡ n .sdu x
+  read-beyond x l =
+      let e : read x ≡ near.considered-in n es x = cond-false _ _ _ (and-left _ _ (le-ltb x ack (omega (arith, l, recent)))) in
+      let f : near.considered-in n es x ≡ n .sdu x = cond-false _ _ _ (and-left _ _ (le-ltb x (n .TX-Next) l)) in
+      e ∙ f
+
+  first-to-next : to ≤ n .TX-Next
+  first-to-next = omega (arith, seek-to (λ x. not (read x .acknowledged)) (n .TX-Next - n .TX-Next-Ack) (n .TX-Next-Ack), top-from n, sound .begun)
+
+  moved-past : (x : ℕ) → to ≤ x → near.reported s ack es n .sdu x ≡ read x
+  moved-past x l = cond-false _ _ _ (le-ltb x to l)
+
+  -- what the window passes over was acknowledged
+  moved-acknowledged : (x : ℕ) → near.reported s ack es n .sdu x .acknowledged ≡ true → (n .sdu x .acknowledged ≡ true) ⊎ (read x .acknowledged ≡ true)
+  moved-acknowledged x e = go (cases-lt x to) (cases-lt x (n .TX-Next-Ack))
+    where
+      go : (x < to) ⊎ (to ≤ x) → (x < n .TX-Next-Ack) ⊎ (n .TX-Next-Ack ≤ x) → (n .sdu x .acknowledged ≡ true) ⊎ (read x .acknowledged ≡ true)
+      go (inr l) k = inr (ap (λ t. t .acknowledged) (sym (moved-past x l)) ∙ e)
+      go (inl l) (inl k) = inl (ap (λ t. t .acknowledged) (sound .below x k))
+      go (inl l) (inr k) = inr (not-false _ (seek-before (λ x. not (read x .acknowledged)) (n .TX-Next - n .TX-Next-Ack) (n .TX-Next-Ack) x k l))
+
+  reported-moved : Moved n (near.reported s ack es n)
+  reported-moved =
+      record {
+        same-count = refl;
+        same-next = refl;
+        first-grows = seek-from (λ x. not (read x .acknowledged)) (n .TX-Next - n .TX-Next-Ack) (n .TX-Next-Ack);
+        below = λ x l. cond-true _ _ _ (lt-ltb x to l);
+        lowest = λ l. ap (λ t. t .acknowledged) (moved-past to (omega arith)) ∙ not-true _ (seek-found (λ x. not (read x .acknowledged)) (n .TX-Next - n .TX-Next-Ack) (n .TX-Next-Ack) (omega (arith, l, top-from n, sound .begun)));
+        beyond = λ x l. moved-past x (omega (arith, l, first-to-next)) ∙ read-beyond x l;
+        bytes = λ x l. ap (λ t. t .bytes) (moved-past x l) ∙ read-bytes x;
+        unsent = λ x i l. ap (λ t. near.is-unsent (t .mark i)) (moved-past x l) ∙ read-unsent x i;
+        acknowledged = λ x e. ⊎-elim (sound .acknowledged x) (read-begun x) (moved-acknowledged x e);
+      }
+
+  -- a report that is not stale
+  pub near-reported : Reported-kept s acc n ack es
+  near-reported =
+      record {
+        sound = moved-sound acc n (near.reported s ack es n) sound reported-moved;
+        same-next = refl;
+        first-grows = reported-moved .first-grows;
+        same-top = moved-top acc n (near.reported s ack es n) sound reported-moved;
+        was-reported = λ x e. ⊎-elim inl (λ k. ⊎-elim inl (λ p. inr (p .0, p .1)) (read-new x k)) (moved-acknowledged x e);
+        stays = λ x e. ⊎-elim (λ l. ap (λ t. t .acknowledged) (reported-moved .below x l)) (λ l. ap (λ t. t .acknowledged) (moved-past x l) ∙ read-stays x e) (cases-lt x to);
+      }
