@@ -17,7 +17,7 @@ use Rattle.protocol.specs.Searching.{seek, update}
 use Rattle.protocol.specs.Sending as near
 use Rattle.protocol.specs.Settings.{Settings}
 use Rattle.protocol.specs.Timers.{runs-out}
-use Rattle.std.proofs.shelf.Tests.{and-left, and-parts, both-ways, cases-eq, cases-lt, cond-true, cond-false, eq-eqb, false≢true, le-ltb, lt-ltb, ltb-true, not-false, not-true}
+use Rattle.std.proofs.shelf.Tests.{and-left, and-parts, both-ways, cases-eq, cases-lt, cond-true, cond-false, eqb-true, false≢true, le-ltb, lt-ltb, ltb-true, not-false, not-true}
 use Rattle.std.specs.declared.option.Option.{Option}
 use Rattle.std.specs.declared.option.Option.the-variants.{Some, None}
 
@@ -91,6 +91,17 @@ considered-if : (b : Bool) (named : ℕ → Bool) (s : near.Sdu)
     → Same-unsent (cond b (near.considered named s) s) s × (cond b (near.considered named s) s .acknowledged ≡ s .acknowledged)
 considered-if true named s = (record { bytes = refl; unsent = λ i. repend-unsent (named i) (s .mark i) }, refl)
 considered-if false named s = (record { bytes = refl; unsent = λ i. refl }, refl)
+
+considered-at : (named : ℕ → Bool) (f : ℕ → near.Sdu) (y x : ℕ)
+    → let g = update f y (near.considered named (f y)) in Same-unsent (g x) (f x) × (g x .acknowledged ≡ f x .acknowledged)
+considered-at named f y x = go (eqb x y) refl
+  where
+    go : (b : Bool) → eqb x y ≡ b
+        → let t = cond b (near.considered named (f y)) (f x) in Same-unsent t (f x) × (t .acknowledged ≡ f x .acknowledged)
+    go true e =
+        subst (λ z. Same-unsent (near.considered named (f z)) (f x) × (near.considered named (f z) .acknowledged ≡ f x .acknowledged))
+        (eqb-true x y e) (considered-if true named (f x))
+    go false e = considered-if false named (f x)
 
 acknowledge-if : (b : Bool) (s : near.Sdu)
     → Same-unsent (cond b (near.acknowledge s) s) s × (cond b (near.acknowledge s) s .acknowledged ≡ true → (s .acknowledged ≡ true) ⊎ (b ≡ true))
@@ -202,3 +213,74 @@ module _ (s : Settings) (acc : List Bytes) (n : near.Near) (ack : ℕ) (es : Lis
         was-reported = λ x e. ⊎-elim inl (λ k. ⊎-elim inl (λ p. inr (p .0, p .1)) (read-new x k)) (moved-acknowledged x e);
         stays = λ x e. ⊎-elim (λ l. ap (λ t. t .acknowledged) (reported-moved .below x l)) (λ l. ap (λ t. t .acknowledged) (moved-past x l) ∙ read-stays x e) (cases-lt x to);
       }
+
+-- a Tick --------------------------------------------------------------------------------------------------------------
+
+-- m is n but for marks and counters
+pub record Settled-kept (acc : List Bytes) (n m : near.Near) : Type 0 where
+  pub sound : Near-sound acc m
+  pub same-top : near.top m ≡ near.top n
+  pub same-first : m .TX-Next-Ack ≡ n .TX-Next-Ack
+  pub same-next : m .TX-Next ≡ n .TX-Next
+  pub same-acknowledged : (x : ℕ) → m .sdu x .acknowledged ≡ n .sdu x .acknowledged
+
+highest-in-window : (n : near.Near) (x : ℕ) → near.highest-sent n ≡ Some x → (n .TX-Next-Ack ≤ x) × (x < near.top n)
+highest-in-window n x = go (near.top n) (n .TX-Next-Ack) _ _ refl
+  where
+    go : (top first back : ℕ) (b : Bool) → ltb back (top - first) ≡ b → cond b (Some (top - 1 - back)) None ≡ Some x → (first ≤ x) × (x < top)
+    go top first back true t e =
+        let k : top - 1 - back ≡ x = cc in
+        let l = ltb-true back (top - first) t in
+        (omega (arith, k, l), omega (arith, k, l))
+    go top first back false t e = let z : _≡_ {A = ℕ} 0 1 = cc in absurd (omega arith)
+
+module _ (s : Settings) (acc : List Bytes) (n : near.Near) (sound : Near-sound acc n) where
+  -- m differs in SDUs of the window alone, and not in their unsent bytes
+  settled : (m : near.Near) → m .TX-NEXT ≡ n .TX-NEXT → m .TX-Next ≡ n .TX-Next → m .TX-Next-Ack ≡ n .TX-Next-Ack
+      → ((x : ℕ) → (x < n .TX-Next-Ack) ⊎ (n .TX-Next ≤ x) → m .sdu x ≡ n .sdu x)
+      → ((x : ℕ) → Same-unsent (m .sdu x) (n .sdu x) × (m .sdu x .acknowledged ≡ n .sdu x .acknowledged)) → Settled-kept acc n m
+  settled m count next first outside same =
+      let moved : Moved n m =
+      record {
+        same-count = count;
+        same-next = next;
+        first-grows = omega (arith, first);
+        below = λ x l. let h : x < n .TX-Next-Ack = omega (arith, l, first) in outside x (inl h) ∙ sound .below x h;
+        lowest = λ l. same (m .TX-Next-Ack) .1 ∙ ap (λ x. n .sdu x .acknowledged) first ∙ sound .lowest (omega (arith, l, first));
+        beyond = λ x l. outside x (inr l);
+        bytes = λ x l. same x .0 .bytes;
+        unsent = λ x i l. same x .0 .unsent i;
+        acknowledged = λ x e. sound .acknowledged x (sym (same x .1) ∙ e);
+      } in
+      record {
+        sound = moved-sound acc n m sound moved;
+        same-top = moved-top acc n m sound moved;
+        same-first = first;
+        same-next = next;
+        same-acknowledged = λ x. same x .1;
+      }
+
+  polls-only : (p : near.Polling) → Settled-kept acc n (near.with-polling n p)
+  polls-only p = settled (near.with-polling n p) refl refl refl (λ x l. refl) (λ x. (record { bytes = refl; unsent = λ i. refl }, refl))
+
+  considers : (o : Option ℕ) → near.highest-sent n ≡ o → Settled-kept acc n (near.failed-if s (near.considered-all o (near.owing n)))
+  considers None e =
+      settled (near.failed-if s (near.owing n)) refl refl refl (λ x l. refl) (λ x. (record { bytes = refl; unsent = λ i. refl }, refl))
+  considers (Some y) e =
+      settled after refl refl refl
+      (λ x l. update-other (n .sdu) y _ x (λ k. ⊎-elim (λ h. omega (arith, h, k, in-window)) (λ h. omega (arith, h, k, in-window, sound .begun)) l))
+      (λ x. considered-at (λ i. true) (n .sdu) y x)
+    where
+      after : near.Near
+      after = near.failed-if s (near.considered-all (Some y) (near.owing n))
+      in-window : (n .TX-Next-Ack ≤ y) × (y < near.top n)
+      in-window = highest-in-window n y e
+
+  pub near-ticked : Settled-kept acc n (near.tick-near s n)
+  near-ticked = go _ (runs-out (n .polling .t-PollRetransmit)) (near.nothing-to-send n)
+    where
+      go : (p : near.Polling) (a b : Bool)
+          → Settled-kept acc n (cond a (cond b (near.failed-if s (near.considered-all (near.highest-sent n) (near.owing n))) (near.owing n)) (near.with-polling n p))
+      go p true true = considers (near.highest-sent n) refl
+      go p true false = polls-only (near.owing n .polling)
+      go p false b = polls-only p
