@@ -19,11 +19,6 @@ use Rattle.protocol.specs.Settings.{Settings}
 use Rattle.std.proofs.shelf.Lists.{length-push, getD-append-left, getD-push}
 use Rattle.std.proofs.shelf.Tests.{both-ways, cases-bool, cases-eq, cases-lt, eq-eqb, cond-true, cond-false, false≢true, ltb-true, lt-ltb, le-ltb}
 
-unsent-mark : (m : near.Mark) → near.is-unsent m ≡ true → m ≡ near.unsent
-unsent-mark near.unsent e = refl
-unsent-mark near.sent e = absurd (false≢true e)
-unsent-mark near.pending e = absurd (false≢true e)
-
 pub near-new : Near-sound [] near.new-near
 near-new =
     record {
@@ -47,6 +42,12 @@ module _ (acc : List Bytes) (n : near.Near) (sound : Near-sound acc n) where
 
   pub top-not-begun : begun (n .sdu (near.top n)) ≡ false
   top-not-begun = not-begun (n .sdu (near.top n)) (λ i. above-top (near.top n) i (omega arith))
+
+  -- an SDU of which nothing was sent has unsent bytes
+  pub unbegun-unsent : (x : ℕ) → near.top n ≤ x → x < n .TX-Next → near.has near.is-unsent (n .sdu x) ≡ true
+  unbegun-unsent x lo hi =
+      has-at near.is-unsent (n .sdu x) 0 (omega (arith, ap length (sound .bytes x (omega (arith, lo, top-from n)) hi)))
+      (ap near.is-unsent (above-top x 0 lo))
 
 -- giving a packet ---------------------------------------------------------------------------------------------------
 

@@ -9,7 +9,7 @@ use lib.Dec.{ltb, leb, eqb}
 use lib.ListN.{length, take, drop, getD, length-drop, length-append}
 use Rattle.protocol.proofs.Invariants.{Packets, packet, sdu, Part-of, Near-sound}
 use Rattle.protocol.proofs.Marks.{seek-is, seek-past, has-found, has-at, has-none, begun, not-begun, begun-same, top-from, top-begun, top-is}
-use Rattle.protocol.proofs.NearKept.{above-top, top-not-begun}
+use Rattle.protocol.proofs.NearKept.{above-top, unbegun-unsent}
 use Rattle.protocol.proofs.Seeks.{seek-from, seek-to, seek-found, seek-before, seek-least, update-same, update-other}
 use Rattle.protocol.specs.Bytes.{Bytes}
 use Rattle.protocol.specs.Numbers.{sn-modulus}
@@ -109,15 +109,9 @@ module _ (acc : List Bytes) (n : near.Near) (g : ℕ) (sound : Near-sound acc n)
   pending-begun : (x : ℕ) → near.has near.is-pending (n .sdu x) ≡ true → x ≤ near.top n
   pending-begun x h = ⊎-elim (λ l. omega (arith, l)) (λ l. absurd (both-ways _ (ap near.is-pending (above-top acc n sound x _ l)) (has-found near.is-pending (n .sdu x) h .1))) (cases-lt x (near.top n))
 
-  -- an SDU of which nothing was sent has unsent bytes
-  top-unsent : near.top n < n .TX-Next → near.has near.is-unsent (n .sdu (near.top n)) ≡ true
-  top-unsent l =
-      has-at near.is-unsent (n .sdu (near.top n)) 0 (omega (arith, ap length (sound .bytes (near.top n) (top-from n) l)))
-      (ap near.is-unsent (above-top acc n sound (near.top n) 0 (omega arith)))
-
   unsent-begun : near.has near.is-unsent (n .sdu (near.count-with near.is-unsent n)) ≡ true → near.count-with near.is-unsent n ≤ near.top n
   unsent-begun h =
-      ⊎-elim (λ l. seek-least (λ x. near.has near.is-unsent (n .sdu x)) near.window-size (n .TX-Next-Ack) (near.top n) (top-from n) (top-unsent l))
+      ⊎-elim (λ l. seek-least (λ x. near.has near.is-unsent (n .sdu x)) near.window-size (n .TX-Next-Ack) (near.top n) (top-from n) (unbegun-unsent acc n sound (near.top n) (omega arith) l))
       (λ l. omega (arith, l, in-window near.is-unsent (near.count-with near.is-unsent n) h)) (cases-lt (near.top n) (n .TX-Next))
 
   found : (test : near.Mark → Bool) → ltb (near.count-with test n) (n .TX-Next-Ack + near.window-size) ≡ true
@@ -138,3 +132,124 @@ module _ (acc : List Bytes) (n : near.Near) (g : ℕ) (sound : Near-sound acc n)
       go {again} true b p q e = let k : again ≡ run = cc in subst (Fit-run n g) k (p refl)
       go {again} {new} false true p q e = let k : new ≡ run = cc in subst (Fit-run n g) k (q refl)
       go false false p q e = let z : _≡_ {A = ℕ} 0 1 = cc in absurd (omega arith)
+
+-- sending it ----------------------------------------------------------------------------------------------------------
+
+pub record Spent-kept (s : Settings) (acc : List Bytes) (n : near.Near) (g : ℕ) (run : near.Run) : Type 0 where
+  pub sound : Near-sound acc (near.spent s run n)
+  pub low : n .TX-Next-Ack ≤ run .count
+  pub high : run .count < n .TX-Next
+  pub begun : run .count < near.top (near.spent s run n)
+  pub part : Part-of (sdu acc (run .count)) (run .count) (near.amd-of-run s run n)
+  pub top-grows : near.top n ≤ near.top (near.spent s run n)
+  pub top-by-one : near.top (near.spent s run n) ≤ near.top n + 1
+  pub same-first : near.spent s run n .TX-Next-Ack ≡ n .TX-Next-Ack
+  pub same-next : near.spent s run n .TX-Next ≡ n .TX-Next
+  pub same-acknowledged : (x : ℕ) → near.spent s run n .sdu x .acknowledged ≡ n .sdu x .acknowledged
+  pub fits : length (encode (amd (near.amd-of-run s run n))) ≤ g
+  pub some : 1 ≤ length (encode (amd (near.amd-of-run s run n)))
+
+module _ (s : Settings) (acc : List Bytes) (n : near.Near) (g : ℕ) (run : near.Run) (sound : Near-sound acc n) (fit : Fit-run n g run) where
+
+  spent-here : (x : ℕ) → x ≡ run .count → near.spent s run n .sdu x ≡ near.sent-run run (n .sdu (run .count))
+  spent-here x e = cond-true _ _ _ (eq-eqb x (run .count) e)
+
+  spent-other : (x : ℕ) → (x ≡ run .count → ⊥) → near.spent s run n .sdu x ≡ n .sdu x
+  spent-other x d = update-other (n .sdu) (run .count) _ x d
+
+  spent-bytes : (x : ℕ) → near.spent s run n .sdu x .bytes ≡ n .sdu x .bytes
+  spent-bytes x = go (cases-eq x (run .count))
+    where
+      go : (x ≡ run .count) ⊎ (x ≡ run .count → ⊥) → near.spent s run n .sdu x .bytes ≡ n .sdu x .bytes
+      go (inl e) = ap (λ t. t .bytes) (spent-here x e) ∙ ap (λ y. n .sdu y .bytes) (sym e)
+      go (inr d) = ap (λ t. t .bytes) (spent-other x d)
+
+  spent-acknowledged : (x : ℕ) → near.spent s run n .sdu x .acknowledged ≡ n .sdu x .acknowledged
+  spent-acknowledged x = go (cases-eq x (run .count))
+    where
+      go : (x ≡ run .count) ⊎ (x ≡ run .count → ⊥) → near.spent s run n .sdu x .acknowledged ≡ n .sdu x .acknowledged
+      go (inl e) = ap (λ t. t .acknowledged) (spent-here x e) ∙ ap (λ y. n .sdu y .acknowledged) (sym e)
+      go (inr d) = ap (λ t. t .acknowledged) (spent-other x d)
+
+  -- the run is not empty, so its SDU was begun
+  run-begun : begun (near.sent-run run (n .sdu (run .count))) ≡ true
+  run-begun =
+      let m : near.sent-run run (n .sdu (run .count)) .mark (run .from) ≡ near.sent =
+      cond-true _ _ _ (and-from _ _ (le-leb (run .from) (run .from) (omega arith)) (lt-ltb (run .from) (run .from + run .size) (omega (arith, fit .some)))) in
+      has-at (λ m. not (near.is-unsent m)) (near.sent-run run (n .sdu (run .count))) (run .from) (omega (arith, fit .inside, fit .some)) (ap (λ m. not (near.is-unsent m)) m)
+
+  spent-begun : (x : ℕ) → n .TX-Next-Ack ≤ x → (x < near.top n) ⊎ (x ≡ run .count) → begun (near.spent s run n .sdu x) ≡ true
+  spent-begun x lo (inr e) = ap begun (spent-here x e) ∙ run-begun
+  spent-begun x lo (inl l) = go (cases-eq x (run .count))
+    where
+      go : (x ≡ run .count) ⊎ (x ≡ run .count → ⊥) → begun (near.spent s run n .sdu x) ≡ true
+      go (inl e) = ap begun (spent-here x e) ∙ run-begun
+      go (inr d) = ap begun (spent-other x d) ∙ top-begun n x lo l
+
+  spent-mark : (x i : ℕ) → near.top n ≤ x → run .count < x → near.spent s run n .sdu x .mark i ≡ near.unsent
+  spent-mark x i lo l = ap (λ t. t .mark i) (spent-other x (λ e. omega (arith, e, l))) ∙ above-top acc n sound x i lo
+
+  -- a run of an SDU that was not begun begins the next one
+  spent-top : ((run .count < near.top n) × (near.top (near.spent s run n) ≡ near.top n))
+      ⊎ ((run .count ≡ near.top n) × (near.top (near.spent s run n) ≡ near.top n + 1))
+  spent-top = go (cases-lt (run .count) (near.top n))
+    where
+      go : (run .count < near.top n) ⊎ (near.top n ≤ run .count)
+          → ((run .count < near.top n) × (near.top (near.spent s run n) ≡ near.top n))
+          ⊎ ((run .count ≡ near.top n) × (near.top (near.spent s run n) ≡ near.top n + 1))
+      go (inl l) =
+          inl (l, top-is (near.spent s run n) (near.top n) (top-from n) (omega (arith, sound .begun, sound .window))
+          (λ x lo hi. spent-begun x lo (inl hi)) (not-begun (near.spent s run n .sdu (near.top n)) (λ i. spent-mark (near.top n) i (omega arith) l)))
+      go (inr l) =
+          let e : run .count ≡ near.top n = omega (arith, l, fit .begun-to) in
+          inr (e, top-is (near.spent s run n) (near.top n + 1) (omega (arith, top-from n)) (omega (arith, e, fit .high, sound .window))
+          (λ x lo hi. spent-begun x lo (⊎-elim inl (λ h. inr (omega (arith, h, hi, e))) (cases-lt x (near.top n))))
+          (not-begun (near.spent s run n .sdu (near.top n + 1)) (λ i. spent-mark (near.top n + 1) i (omega arith) (omega (arith, e)))))
+
+  top-bounds : (near.top n ≤ near.top (near.spent s run n)) × (near.top (near.spent s run n) ≤ near.top n + 1)
+      × (run .count < near.top (near.spent s run n)) × (near.top (near.spent s run n) ≤ n .TX-Next)
+  top-bounds = go (near.top (near.spent s run n)) (near.top n) spent-top (sound .begun) (fit .high)
+    where
+      go : (t u : ℕ) → ((run .count < u) × (t ≡ u)) ⊎ ((run .count ≡ u) × (t ≡ u + 1)) → u ≤ n .TX-Next → run .count < n .TX-Next
+          → (u ≤ t) × (t ≤ u + 1) × (run .count < t) × (t ≤ n .TX-Next)
+      go t u (inl (l, e)) b h = (omega arith, omega arith, omega arith, omega arith)
+      go t u (inr (l, e)) b h = (omega arith, omega arith, omega arith, omega arith)
+
+  spent-sound : Near-sound acc (near.spent s run n)
+  spent-sound =
+      record {
+        packets = sound .packets;
+        counts = sound .counts;
+        next = sound .next;
+        begun = top-bounds .3;
+        window = sound .window;
+        below = λ x l. spent-other x (λ e. omega (arith, e, l, fit .low)) ∙ sound .below x l;
+        lowest = λ l. spent-acknowledged (n .TX-Next-Ack) ∙ sound .lowest l;
+        beyond = λ x l. spent-other x (λ e. omega (arith, e, l, fit .high)) ∙ sound .beyond x l;
+        bytes = λ x lo hi. spent-bytes x ∙ sound .bytes x lo hi;
+        unbegun = λ x i lo hi. spent-mark x i (omega (arith, lo, top-bounds .0)) (omega (arith, lo, top-bounds .2));
+        acknowledged = λ x e. omega (arith, top-bounds .0, sound .acknowledged x (sym (spent-acknowledged x) ∙ e));
+      }
+
+  spent-kept : Spent-kept s acc n g run
+  spent-kept =
+      let bytes = n .sdu (run .count) .bytes in
+      let size = part-size (near.polls s run n) bytes (run .count) (run .from) (run .size) (fit .some) (fit .inside) in
+      record {
+        sound = spent-sound;
+        low = fit .low;
+        high = fit .high;
+        begun = top-bounds .2;
+        part = subst (λ b. Part-of b (run .count) (near.amd-of-run s run n)) (sound .bytes (run .count) (fit .low) (fit .high)) (part-is (near.polls s run n) bytes (run .count) (run .from) (run .size) (fit .some) (fit .inside));
+        top-grows = top-bounds .0;
+        top-by-one = top-bounds .1;
+        same-first = refl;
+        same-next = refl;
+        same-acknowledged = spent-acknowledged;
+        fits = omega (arith, size, fit .fits);
+        some = omega (arith, size, fit .some);
+      }
+
+pub near-spent : (s : Settings) (acc : List Bytes) (n : near.Near) (g : ℕ) (run : near.Run) → Near-sound acc n → 5 ≤ g
+    → near.served n g ≡ Some run → Spent-kept s acc n g run
+near-spent s acc n g run sound enough serves = spent-kept s acc n g run sound (served-fits acc n g sound enough run serves)
