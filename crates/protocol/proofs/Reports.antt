@@ -145,3 +145,170 @@ sdu-entries-name : (p : far.Partial) (x : ℕ) → far.complete p ≡ false → 
 sdu-entries-name p x c =
     cond-both (eqb (far.held-from p 502 0) 502) (record { nack-sn = x % sn-modulus; missing = every } ∷ []) (far.gaps p x 502 0)
     (Names x) (λ e. inl refl) (λ e. gaps-name p x 501 c)
+
+-- a report -------------------------------------------------------------------------------------------------------------
+
+-- an entry of some count from `low` to below `high`
+pub record Entry-between (low high : ℕ) (e : Entry) : Type 0 where
+  pub count : ℕ
+  pub from : low ≤ count
+  pub to : count < high
+  pub entry : Entry-of count e
+
+-- A report on the counts from `low` on, `high` at most, in this room. What is not complete below its ACK count is named.
+pub record Reports (f : far.Far) (low high room : ℕ) (r : far.Report) : Type 0 where
+  pub ack-from : low ≤ r .ack
+  pub ack-to : r .ack ≤ high
+  pub in-room : far.entries-length (r .entries) ≤ room
+  pub true-entries : All (Entry-between low (r .ack)) (r .entries)
+  pub named : (y : ℕ) → low ≤ y → y < r .ack → far.complete (f .sdu y) ≡ false → Names y (r .entries)
+
+entries-length-append : (es fs : List Entry) → far.entries-length (es ++ fs) ≡ far.entries-length es + far.entries-length fs
+entries-length-append [] fs = omega arith
+entries-length-append (e ∷ es) fs = omega (arith, entries-length-append es fs)
+
+-- seen from one count earlier
+lower : (low high : ℕ) (es : List Entry) → All (Entry-between (suc low) high) es → All (Entry-between low high) es
+lower low high =
+    all-weaker (Entry-between (suc low) high) (Entry-between low high)
+    (λ e b. record { count = b .count; from = omega (arith, b .from); to = b .to; entry = b .entry })
+
+report-from-right : (f : far.Far) (fuel x room : ℕ) → ((y : ℕ) → x ≤ y → y < x + fuel → far.limit (f .sdu y) < 65536)
+    → Reports f x (x + fuel) room (far.report-from f fuel x room)
+report-from-right f zero x room small =
+    record {
+      ack-from = omega arith;
+      ack-to = omega arith;
+      in-room = omega arith;
+      true-entries = tt;
+      named = λ y lo hi c. absurd (omega (arith, lo, hi));
+    }
+report-from-right f (suc fuel) x room small =
+    go (far.complete (f .sdu x)) refl (leb (far.entries-length own) room) refl (λ room′. report-from-right f fuel (suc x) room′ (λ y lo hi. small y (omega (arith, lo)) (omega (arith, hi))))
+  where
+    own : List Entry
+    own = far.sdu-entries x (f .sdu x)
+
+    left : ℕ
+    left = room - far.entries-length own
+
+    go : (done : Bool) → far.complete (f .sdu x) ≡ done → (room-left : Bool) → leb (far.entries-length own) room ≡ room-left
+        → ((room′ : ℕ) → Reports f (suc x) (suc x + fuel) room′ (far.report-from f fuel (suc x) room′))
+        → Reports f x (x + suc fuel) room
+        (cond done (far.report-from f fuel (suc x) room)
+        (cond room-left (far.behind own (far.report-from f fuel (suc x) left)) (record { ack = x; entries = [] })))
+    go true c room-left e again =
+        let r = again room in
+        record {
+          ack-from = omega (arith, r .ack-from);
+          ack-to = omega (arith, r .ack-to);
+          in-room = r .in-room;
+          true-entries = lower x _ _ (r .true-entries);
+          named = λ y lo hi o. ⊎-elim (λ s. absurd (both-ways _ o (ap (λ z. far.complete (f .sdu z)) s ∙ c)))
+              (λ d. r .named y (omega (arith, lo, d)) hi o) (cases-eq y x);
+        }
+    go false c true e again =
+        let r = again left in
+        let rest = far.report-from f fuel (suc x) left in
+        let room-is : far.entries-length own ≤ room = leb-true _ _ e in
+        record {
+          ack-from = omega (arith, r .ack-from);
+          ack-to = omega (arith, r .ack-to);
+          in-room = omega (arith, r .in-room, entries-length-append own (rest .entries), room-is);
+          true-entries =
+              all-append (Entry-between x (rest .ack)) own (rest .entries)
+              (all-weaker (Entry-of x) (Entry-between x (rest .ack))
+              (λ k b. record { count = x; from = omega arith; to = omega (arith, r .ack-from); entry = b }) own
+              (sdu-entries-right (f .sdu x) x (small x (omega arith) (omega arith))))
+              (lower x (rest .ack) (rest .entries) (r .true-entries));
+          named = λ y lo hi o.
+              ⊎-elim (λ s. subst (λ z. Names z (own ++ rest .entries)) (sym s) (names-left x own (rest .entries) (sdu-entries-name (f .sdu x) x c)))
+              (λ d. names-right y own (rest .entries) (r .named y (omega (arith, lo, d)) hi o)) (cases-eq y x);
+        }
+    go false c false e again =
+        record {
+          ack-from = omega arith;
+          ack-to = omega arith;
+          in-room = omega arith;
+          true-entries = tt;
+          named = λ y lo hi o. absurd (omega (arith, lo, hi));
+        }
+
+limit-small : (bytes : Bytes) (p : far.Partial) → length bytes ≤ 502 → Partial-sound bytes p → far.limit p < 65536
+limit-small bytes p short sound = go (p .known-end) refl
+  where
+    go : (o : Option ℕ) → p .known-end ≡ o → far.limit p < 65536
+    go None e = omega (arith, limit-is p None e)
+    go (Some n) e = omega (arith, limit-is p (Some n) e, sound .end n e, short)
+
+pub report-right : (acc : List Bytes) (f : far.Far) (grant : ℕ) → Packets acc → Far-sound acc f
+    → Reports f (f .RX-Next) (f .RX-Highest-Status) (grant - 3) (far.report f grant)
+report-right acc f grant packets h =
+    subst (λ high. Reports f (f .RX-Next) high (grant - 3) (far.report f grant)) (omega (arith, h .status-from))
+    (report-from-right f (f .RX-Highest-Status - f .RX-Next) (f .RX-Next) (grant - 3)
+    (λ y lo hi.
+    let seen : y < f .RX-Next-Highest = omega (arith, hi, h .status-from, h .status-to) in
+    limit-small (sdu acc y) (f .sdu y) (sdu-short acc y packets (omega (arith, seen, h .seen))) (h .true-sdus y lo seen)))
+
+-- below the ACK count, what no entry names is complete
+pub unnamed-complete : (acc : List Bytes) (f : far.Far) (grant y : ℕ) → Packets acc → Far-sound acc f → y < far.report f grant .ack
+    → (Names y (far.report f grant .entries) → ⊥) → far.complete (f .sdu y) ≡ true
+unnamed-complete acc f grant y packets h l unnamed = ⊎-elim below (λ lo. inside lo _ refl) (cases-lt y (f .RX-Next))
+  where
+    below : y < f .RX-Next → far.complete (f .sdu y) ≡ true
+    below lo = ap far.complete (h .below y lo)
+
+    inside : f .RX-Next ≤ y → (b : Bool) → far.complete (f .sdu y) ≡ b → far.complete (f .sdu y) ≡ true
+    inside lo true e = e
+    inside lo false e = absurd (unnamed (report-right acc f grant packets h .named y lo l e))
+
+-- as bytes -----------------------------------------------------------------------------------------------------------
+
+pub entries-bytes : (es : List Entry) → length (encode-entries es) ≡ far.entries-length es
+entries-bytes [] = refl
+entries-bytes (e ∷ es) = omega (arith, length-append (encode-entry (more es) e) (encode-entries es), entries-bytes es)
+
+pub report-length : (acc : List Bytes) (f : far.Far) (grant : ℕ) → Packets acc → Far-sound acc f → 5 ≤ grant
+    → length (encode-status (far.report f grant .ack % sn-modulus) (far.report f grant .entries)) ≤ grant
+report-length acc f grant packets h g =
+    omega (arith, entries-bytes (far.report f grant .entries), report-right acc f grant packets h .in-room)
+
+-- the PDU of a report
+abbrev pub report-pdu : far.Report → Pdu
+report-pdu r = status (r .ack % sn-modulus) (r .entries)
+
+entries-fit : (low high : ℕ) (es : List Entry) → All (Entry-between low high) es → Entries-fit es
+entries-fit low high [] all = tt
+entries-fit low high (e ∷ es) all =
+    (omega (arith, all .0 .entry .number, mod-lt (all .0 .count) {m = sn-modulus} (omega arith)), all .0 .entry .fits, entries-fit low high es (all .1))
+
+pub report-fits : (acc : List Bytes) (f : far.Far) (grant : ℕ) → Packets acc → Far-sound acc f → Fits (report-pdu (far.report f grant))
+report-fits acc f grant packets h =
+    (mod-lt (far.report f grant .ack) {m = sn-modulus} (omega arith), entries-fit _ _ _ (report-right acc f grant packets h .true-entries))
+
+-- numbers of counts that lie close are as far apart as the counts
+ahead-by : (y ack : ℕ) → y < ack → ack ≤ y + 16 → ahead sn-modulus (y % sn-modulus) (ack % sn-modulus) ≡ ack - y
+ahead-by y ack l h = omega (arith, l, h)
+
+entries-valid : (low high place : ℕ) (es : List Entry) → high ≤ low + 16 → All (Entry-between low high) es
+    → entries-fault (high % sn-modulus) place es ≡ None
+entries-valid low high place [] w all = refl
+entries-valid low high place (e ∷ es) w all =
+    let here = all .0 in
+    let far-by : ahead sn-modulus (e .nack-sn) (high % sn-modulus) ≡ high - here .count =
+    ap (λ n. ahead sn-modulus n (high % sn-modulus)) (here .entry .number) ∙ ahead-by (here .count) high (here .to) (omega (arith, here .from, w)) in
+    let some : 1 ≤ ahead sn-modulus (e .nack-sn) (high % sn-modulus) = omega (arith, far-by, here .to) in
+    let near-by : ahead sn-modulus (e .nack-sn) (high % sn-modulus) ≤ 2048 = omega (arith, far-by, here .from, w) in
+    let ok : valid (high % sn-modulus) e ≡ true = and-from _ _ (and-from _ _ (le-leb 1 _ some) (le-leb _ 2048 near-by)) (here .entry .ordered) in
+    cond-true _ _ _ ok ∙ entries-valid low high (place + length (encode-entry true e)) es w (all .1)
+
+-- the near end reads the report that was made
+pub report-reads : (acc : List Bytes) (f : far.Far) (grant : ℕ) → Packets acc → Far-sound acc f
+    → decode Near (encode (report-pdu (far.report f grant))) ≡ Ok (report-pdu (far.report f grant))
+report-reads acc f grant packets h =
+    let r = report-right acc f grant packets h in
+    let no-fault : pdu-fault (report-pdu (far.report f grant)) ≡ None =
+    entries-valid (f .RX-Next) (far.report f grant .ack) 3 (far.report f grant .entries)
+    (omega (arith, r .ack-to, h .status-to, h .window)) (r .true-entries) in
+    written-reads-back (report-pdu (far.report f grant)) (report-fits acc f grant packets h)
+    ∙ ap (λ o. unless o (Ok (report-pdu (far.report f grant)))) no-fault
