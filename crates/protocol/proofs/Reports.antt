@@ -262,6 +262,12 @@ unnamed-complete acc f grant y packets h l unnamed = ⊎-elim below (λ lo. insi
     inside lo true e = e
     inside lo false e = absurd (unnamed (report-right acc f grant packets h .named y lo l e))
 
+-- a near end in whose window count y lies finds it named
+pub named-in : (n : near.Near) (es : List Entry) (y : ℕ) → near.tx-count n (y % sn-modulus) ≡ y → Names y es → near.named n es y ≡ true
+named-in n [] y count names = absurd names
+named-in n (e ∷ es) y count (inl here) = or-left _ _ (eq-eqb _ y (ap (near.tx-count n) here ∙ count))
+named-in n (e ∷ es) y count (inr there) = or-right _ _ (named-in n es y count there)
+
 -- as bytes -----------------------------------------------------------------------------------------------------------
 
 pub entries-bytes : (es : List Entry) → length (encode-entries es) ≡ far.entries-length es
