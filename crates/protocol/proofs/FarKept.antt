@@ -4,7 +4,7 @@ use mathlib.Core.List.{List, [], _∷_, _++_}
 use mathlib.Core.Logic.{_⊎_, inl, inr, ⊎-elim}
 use mathlib.Core.Path.{_≡_, refl, sym, _∙_, ap, subst}
 use Prim.Native.Nat.{ℕ, zero, suc, _+_, _-_, _%_, _<_, _≤_, max}
-use native.Mathlib.Nat.{le-max-left, le-max-right, max-le}
+use native.Mathlib.Nat.{le-max-left, le-max-right, max-le, mod-lt, add-mod-right}
 use native.Mathlib.Omega.{arith}
 use lib.Dec.{ltb, leb, eqb}
 use lib.ListN.{length, getD}
@@ -13,13 +13,15 @@ use Rattle.protocol.specs.Numbers.{sn-modulus}
 use Rattle.protocol.specs.Pdus.{Amd, encode-pdcp}
 use Rattle.protocol.specs.Receiving as far
 use Rattle.protocol.specs.Searching.{seek, update}
+use Rattle.protocol.specs.Sending.{packet-limit}
 use Rattle.protocol.specs.Settings.{Settings}
 use Rattle.protocol.specs.Timers.{Timer, stopped, running, endless, runs, runs-out, ticked, stopped-if}
+use Rattle.protocol.proofs.Counts.{one-count}
 use Rattle.protocol.proofs.Invariants.{Packets, sdu, Part-of, Partial-sound, Far-sound}
-use Rattle.protocol.proofs.Partials.{nothing-sound, received-sound, complete-bytes, complete-discards}
+use Rattle.protocol.proofs.Partials.{nothing-sound, received-sound, complete-bytes, complete-discards, part-fits}
 use Rattle.protocol.proofs.Seeks.{seek-from, seek-to, seek-found, seek-before, update-same, update-other}
 use Rattle.std.proofs.shelf.Lists.{getD-append-left, length-push}
-use Rattle.std.proofs.shelf.Tests.{both-ways, cases-eq, cases-lt, cond-true, cond-false, eqb-true, eqb-false, leb-false, lt-ltb, le-ltb, not-true, not-false, or-parts}
+use Rattle.std.proofs.shelf.Tests.{both-ways, cases-eq, cases-lt, cond-true, cond-false, eqb-true, eqb-false, leb-false, le-leb, lt-leb, lt-ltb, le-ltb, not-true, not-false, or-parts, or-from, or-left}
 
 -- what a sound far end is but for its timer. In a step it may not yet be known that the counts outside of `Known`
 -- are not complete.
@@ -114,6 +116,12 @@ far-given acc p f h =
 pub sdu-short : (acc : List Bytes) (x : ℕ) → Packets acc → x < length acc → length (sdu acc x) ≤ 502
 sdu-short acc x packets l = omega (arith, packets .short x l .1)
 
+-- what is held from RX-Next on is true, in what was not seen too
+pub true-sdu : (acc : List Bytes) (f : far.Far) → Far-sound acc f → (x : ℕ) → f .RX-Next ≤ x → Partial-sound (sdu acc x) (f .sdu x)
+true-sdu acc f h x lo =
+    ⊎-elim (h .true-sdus x lo) (λ c. subst (Partial-sound (sdu acc x)) (sym (h .beyond x c)) (nothing-sound (sdu acc x)))
+    (cases-lt x (f .RX-Next-Highest))
+
 -- the steps ---------------------------------------------------------------------------------------------------------
 
 -- where a search for an incomplete count ends
@@ -182,10 +190,6 @@ kept-counts acc f x a h lo hi l new =
       true-sdus = λ y b c. by-count y b (cases-eq y x);
     }
   where
-    old : (y : ℕ) → f .RX-Next ≤ y → (y < f .RX-Next-Highest) ⊎ (f .RX-Next-Highest ≤ y) → Partial-sound (sdu acc y) (f .sdu y)
-    old y b (inl c) = h .true-sdus y b c
-    old y b (inr c) = subst (Partial-sound (sdu acc y)) (sym (h .beyond y c)) (nothing-sound (sdu acc y))
-
     by-count : (y : ℕ) → f .RX-Next ≤ y → (y ≡ x) ⊎ (y ≡ x → ⊥)
         → Partial-sound (sdu acc y) (update (f .sdu) x (far.received a (f .sdu x)) y)
     by-count y b (inl e) =
@@ -193,7 +197,7 @@ kept-counts acc f x a h lo hi l new =
         (subst (Partial-sound (sdu acc x)) (sym (update-same (f .sdu) x (far.received a (f .sdu x)))) new)
     by-count y b (inr d) =
         subst (Partial-sound (sdu acc y)) (sym (update-other (f .sdu) x (far.received a (f .sdu x)) y d))
-        (old y b (cases-lt y (f .RX-Next-Highest)))
+        (true-sdu acc f h y b)
 
 -- 2: RX-Next and RX-Highest-Status are past what is complete
 module _ (acc : List Bytes) (f : far.Far) (x : ℕ) (h : Between (λ y. y ≡ x → ⊥) acc f) (to : x < f .RX-Next-Highest) where
@@ -314,12 +318,8 @@ far-taken s acc f x a h lo kept-on l part =
         × (leb (far.data-end a) (far.missing-from (f .sdu x) (length (a .payload)) (far.offset (a .segment))) ≡ false)
     tests = or-parts (leb (f .RX-Next + 16) x) _ kept-on
 
-    old : (x < f .RX-Next-Highest) ⊎ (f .RX-Next-Highest ≤ x) → Partial-sound (sdu acc x) (f .sdu x)
-    old (inl c) = h .true-sdus x lo c
-    old (inr c) = subst (Partial-sound (sdu acc x)) (sym (h .beyond x c)) (nothing-sound (sdu acc x))
-
     was : Partial-sound (sdu acc x) (f .sdu x)
-    was = old (cases-lt x (f .RX-Next-Highest))
+    was = true-sdu acc f h x lo
 
     not-complete : far.complete (f .sdu x) ≡ false
     not-complete = go (far.complete (f .sdu x)) refl
@@ -366,6 +366,48 @@ far-taken s acc f x a h lo kept-on l part =
     which y c (inl e) =
         inr (e, sym (ap far.complete (ap (λ z. update (f .sdu) x (far.received a (f .sdu x)) z) e ∙ update-same (f .sdu) x _)) ∙ c)
     which y c (inr d) = inl (sym (ap far.complete (update-other (f .sdu) x (far.received a (f .sdu x)) y d)) ∙ c)
+
+-- true parts that arrive ------------------------------------------------------------------------------------------------
+
+-- a number stands for its count in the window that begins at RX-Next
+pub rx-count-is : (f : far.Far) (x : ℕ) → f .RX-Next ≤ x → x < f .RX-Next + 4096 → far.rx-count f (x % sn-modulus) ≡ x
+rx-count-is f x lo hi = sym (one-count sn-modulus (f .RX-Next) (x % sn-modulus) x (mod-lt x {m = sn-modulus} (omega arith)) .1 (refl, lo, hi))
+
+-- a part of an SDU below the window is taken for one beyond it
+pub late-discards : (f : far.Far) (x : ℕ) (a : Amd) → x < f .RX-Next → f .RX-Next ≤ x + 4080
+    → far.discards f (far.rx-count f (x % sn-modulus)) a ≡ true
+late-discards f x a below near =
+    let same : (x + 4096) % 4096 ≡ x % sn-modulus = add-mod-right x 4096 in
+    let count : far.rx-count f (x % sn-modulus) ≡ x + 4096 =
+    sym (one-count sn-modulus (f .RX-Next) (x % sn-modulus) (x + 4096) (mod-lt x {m = sn-modulus} (omega arith)) .1 (same, omega arith, omega arith)) in
+    or-left _ _ (le-leb (f .RX-Next + 16) _ (omega (arith, count, near)))
+
+-- A true part that is not too old is discarded, or taken under its count.
+pub far-arrives : (s : Settings) (acc : List Bytes) (f : far.Far) (y : ℕ) (a : Amd) → Packets acc → Far-sound acc f
+    → y < length acc → Part-of (sdu acc y) y a → f .RX-Next ≤ y + 4080 → y < f .RX-Next + 4096
+    → let x = far.rx-count f (a .sn) in
+    (far.discards f x a ≡ true)
+    ⊎ ((x ≡ y) × ((far.clashes (f .sdu x) a || leb packet-limit x) ≡ false) × Taken acc x a f (far.taken s x a f))
+far-arrives s acc f y a packets h l part near to =
+    subst Arrives (sym (part .number)) (⊎-elim (λ b. inl (late-discards f y a b near)) (λ lo. subst Arrives-as (sym (rx-count-is f y lo to)) (in-window lo _ refl)) (cases-lt y (f .RX-Next)))
+  where
+    Arrives-as : ℕ → Type 0
+    Arrives-as x =
+        (far.discards f x a ≡ true)
+        ⊎ ((x ≡ y) × ((far.clashes (f .sdu x) a || leb packet-limit x) ≡ false) × Taken acc x a f (far.taken s x a f))
+
+    Arrives : ℕ → Type 0
+    Arrives sn = Arrives-as (far.rx-count f sn)
+
+    in-window : f .RX-Next ≤ y → (b : Bool) → far.discards f y a ≡ b → Arrives-as y
+    in-window lo true e = inl e
+    in-window lo false e =
+        inr (
+          refl,
+          or-from _ _ (part-fits (sdu acc y) y a (f .sdu y) (sdu-short acc y packets l) (true-sdu acc f h y lo) part)
+              (lt-leb packet-limit y (omega (arith, l, packets .few))),
+          far-taken s acc f y a h lo e l part,
+        )
 
 pub far-discarded : (acc : List Bytes) (f : far.Far) (a : Amd) → Far-sound acc f → Far-sound acc (far.discarded a f)
 far-discarded acc f a h = reporting-sound acc f _ h
