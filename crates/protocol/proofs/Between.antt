@@ -5,13 +5,14 @@ use mathlib.Core.Logic.{_⊎_, inl, inr, ⊎-elim}
 use mathlib.Core.Path.{_≡_, refl, sym, _∙_, ap, subst}
 use Prim.Native.Nat.{ℕ, zero, suc, _+_, _*_, _%_, _<_, _≤_}
 use native.Mathlib.Omega.{arith}
-use lib.Dec.{eqb, ltb}
+use lib.Dec.{ltb}
 use Rattle.protocol.proofs.Counts.{one-count}
 use Rattle.protocol.proofs.FarKept.{far-new}
 use Rattle.protocol.proofs.Invariants.{Part-of, sdu, Near-sound, Far-sound, Pdcp-sound}
 use Rattle.protocol.proofs.Marks.{top-from}
 use Rattle.protocol.proofs.NearKept.{near-new}
 use Rattle.protocol.proofs.PdcpKept.{Held, new-sound}
+use Rattle.protocol.proofs.Reports.{Names}
 use Rattle.protocol.proofs.Strikes.{all-within}
 use Rattle.protocol.specs.Airs.{Waiting, Within, carries, age-limit, aged, after-put}
 use Rattle.protocol.specs.Bytes.{Bytes}
@@ -46,11 +47,6 @@ pub record Data (acc : List Bytes) (top : ℕ) (w : Waiting) : Type 0 where
   pub begun : count < top
   pub young : top ≤ count + 16 + w .age
 
--- whether an entry has this number
-abbrev pub has-number : List Entry → ℕ → Bool
-has-number [] number = false
-has-number (e ∷ es) number = eqb (e .nack-sn) number || has-number es number
-
 -- A report speaks the truth: what it acknowledges and does not name is complete. `most` bounds what any report has
 -- acknowledged, and a report that waits is not far below it.
 pub record Told (f : far.Far) (most : ℕ) (w : Waiting) : Type 0 where
@@ -60,7 +56,7 @@ pub record Told (f : far.Far) (most : ℕ) (w : Waiting) : Type 0 where
   pub fit : Entries-fit entries
   pub ack-to : ack ≤ most
   pub young : most ≤ ack + 16 + 16 * w .age
-  pub true-report : (x : ℕ) → x < ack → has-number entries (x % 4096) ≡ false → far.complete (f .sdu x) ≡ true
+  pub true-report : (x : ℕ) → x < ack → (Names x entries → ⊥) → far.complete (f .sdu x) ≡ true
 
 -- the whole ---------------------------------------------------------------------------------------------------------
 

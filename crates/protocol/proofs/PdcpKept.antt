@@ -237,7 +237,7 @@ module _ (acc got : List Bytes) (ran : Bool) where
 
 -- One more packet collected: the packet of COUNT c, the lowest that is stored.
 module _ (acc got : List Bytes) (ran : Bool) (p : Pdcp) (s : Stored) (rest : List Stored) (sound : Pdcp-sound acc got ran p) where
-  collected-sound : p .store ≡ s ∷ rest → s .count < p .RX-DELIV → Pdcp-sound acc (got ++ s .packet ∷ []) ran (collected p rest)
+  pub collected-sound : p .store ≡ s ∷ rest → s .count < p .RX-DELIV → Pdcp-sound acc (got ++ s .packet ∷ []) ran (collected p rest)
   collected-sound is due-now =
       let store : Store-sound acc (sound .low) (p .RX-NEXT) (s ∷ rest) = subst (Store-sound acc (sound .low) (p .RX-NEXT)) is (sound .store) in
       let inside : s .count < length acc = omega (arith, sound .next-to, sound .deliv-to, due-now) in
@@ -414,3 +414,32 @@ handed-sound acc got ran s c p packets sound small near-front near-back =
         ; held = holds .1
         ; next = omega (arith, next-by)
         }
+
+-- a Tick and a Collect let go of nothing that is held
+pub ticked-keeps : (acc got : List Bytes) (ran : Bool) (s : Settings) (p : Pdcp) → Pdcp-sound acc got ran p
+    → ((k : ℕ) → Held acc got ran p k → Held acc got ran (tick-pdcp s p) k) × (tick-pdcp s p .RX-NEXT ≡ p .RX-NEXT)
+ticked-keeps acc got ran s p sound = go (runs-out (p .t-Reordering)) refl
+  where
+    moved : Pdcp
+    moved = record { RX-DELIV = unstored-from p (p .RX-REORD); RX-NEXT = p .RX-NEXT; RX-REORD = p .RX-REORD; store = p .store; t-Reordering = stopped }
+
+    go : (out : Bool) → runs-out (p .t-Reordering) ≡ out
+        → let q = cond out
+              (reordering s (record { RX-DELIV = unstored-from p (p .RX-REORD); RX-NEXT = p .RX-NEXT; RX-REORD = p .RX-REORD; store = p .store; t-Reordering = stopped }))
+              (record { RX-DELIV = p .RX-DELIV; RX-NEXT = p .RX-NEXT; RX-REORD = p .RX-REORD; store = p .store; t-Reordering = ticked (p .t-Reordering) }) in
+          ((k : ℕ) → Held acc got ran p k → Held acc got ran q k) × (q .RX-NEXT ≡ p .RX-NEXT)
+    go true e =
+        let same = reordering-keeps acc got ran s moved in
+        let bounds = sound .reorder (runs-before (p .t-Reordering) e) in
+        let further = seek-from (λ c. not (is-stored (p .store) c)) (p .RX-NEXT - p .RX-REORD) (p .RX-REORD) in
+        ( λ k h. held-by acc got ran moved (reordering s moved) (same .0) (same .1) k (⊎-elim (λ l. inl (omega (arith, l, bounds .0, further))) inr h)
+        , same .2
+        )
+    go false e = (λ k h. h, refl)
+
+pub collected-keeps : (acc got got′ : List Bytes) (ran : Bool) (p : Pdcp) (s : Stored) (rest : List Stored) → p .store ≡ s ∷ rest → s .count < p .RX-DELIV
+    → (k : ℕ) → Held acc got ran p k → Held acc got′ ran (collected p rest) k
+collected-keeps acc got got′ ran p s rest is due-now k (inl h) = inl h
+collected-keeps acc got got′ ran p s rest is due-now k (inr h) =
+    ⊎-elim (λ e. inl (omega (arith, due-now, eqb-true (s .count) k e))) inr
+    (or-cases (eqb (s .count) k) (is-stored rest k) (ap (λ ss. is-stored ss k) (sym is) ∙ h))
