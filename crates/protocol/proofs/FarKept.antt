@@ -3,16 +3,16 @@ use mathlib.Core.Bool.{Bool, true, false, cond, not, _&&_, _||_}
 use mathlib.Core.List.{List, [], _∷_, _++_}
 use mathlib.Core.Logic.{_⊎_, inl, inr, ⊎-elim}
 use mathlib.Core.Path.{_≡_, refl, sym, _∙_, ap, subst}
-use Prim.Native.Nat.{ℕ, zero, suc, _+_, _-_, _%_, _<_, _≤_, max}
-use native.Mathlib.Nat.{le-max-left, le-max-right, max-le, mod-lt, add-mod-right}
+use Prim.Native.Nat.{ℕ, _+_, _-_, _%_, _<_, _≤_, max}
+use native.Mathlib.Nat.{mod-lt, add-mod-right}
 use native.Mathlib.Omega.{arith}
 use lib.Dec.{ltb, leb, eqb}
-use lib.ListN.{length, getD}
+use lib.ListN.{length}
 use Rattle.protocol.specs.Bytes.{Bytes}
 use Rattle.protocol.specs.Numbers.{sn-modulus}
 use Rattle.protocol.specs.Pdus.{Amd, encode-pdcp}
 use Rattle.protocol.specs.Receiving as far
-use Rattle.protocol.specs.Searching.{seek, update}
+use Rattle.protocol.specs.Searching.{update}
 use Rattle.protocol.specs.Sending.{packet-limit}
 use Rattle.protocol.specs.Settings.{Settings}
 use Rattle.protocol.specs.Timers.{Timer, stopped, running, endless, runs, runs-out, ticked, stopped-if}
@@ -178,15 +178,15 @@ kept-counts : (acc : List Bytes) (f : far.Far) (x : ℕ) (a : Amd) → Far-sound
 kept-counts acc f x a h lo hi l new =
     record {
       status-from = h .status-from;
-      status-to = omega (arith, h .status-to, le-max-left (f .RX-Next-Highest) (x + 1));
-      window = max-le (h .window) (omega (arith, hi));
-      seen = max-le (h .seen) (omega (arith, l));
+      status-to = omega (arith, h .status-to);
+      window = omega (arith, h .window, hi);
+      seen = omega (arith, h .seen, l);
       below = λ y b. update-other (f .sdu) x _ y (λ e. omega (arith, b, e, lo)) ∙ h .below y b;
       lowest = λ d. ap far.complete (update-other (f .sdu) x _ (f .RX-Next) d) ∙ h .lowest;
       at-status = λ d. ap far.complete (update-other (f .sdu) x _ (f .RX-Highest-Status) d) ∙ h .status;
       beyond = λ y b.
-          update-other (f .sdu) x _ y (λ e. omega (arith, b, e, le-max-right (f .RX-Next-Highest) (x + 1)))
-          ∙ h .beyond y (omega (arith, b, le-max-left (f .RX-Next-Highest) (x + 1)));
+          update-other (f .sdu) x _ y (λ e. omega (arith, b, e))
+          ∙ h .beyond y (omega (arith, b));
       true-sdus = λ y b c. by-count y b (cases-eq y x);
     }
   where
@@ -338,7 +338,7 @@ far-taken s acc f x a h lo kept-on l part =
     mid = kept-counts acc f x a h lo (leb-false _ _ (tests .0)) l new
 
     to : x < g .RX-Next-Highest
-    to = omega (arith, le-max-right (f .RX-Next-Highest) (x + 1))
+    to = omega (arith)
 
     moved : far.Far
     moved = far.advanced x g
@@ -346,7 +346,7 @@ far-taken s acc f x a h lo kept-on l part =
     stopped-there : Far-sound acc (far.reassembled moved)
     stopped-there =
         reassembled-sound acc moved (advanced-counts acc g x mid to)
-        (λ r. omega (arith, h .trigger r .1, le-max-left (f .RX-Next-Highest) (x + 1)))
+        (λ r. omega (arith, h .trigger r .1))
 
     waits : far.Far
     waits = far.awaited s (moved .RX-Next) (far.reassembled moved)

@@ -1,22 +1,21 @@
 -- One SDU at the far end: true parts keep it true, and once it is complete it is the SDU that was sent.
 use mathlib.Core.Bool.{Bool, true, false, cond, not, _&&_, _||_}
-use mathlib.Core.List.{List, [], _∷_}
-use mathlib.Core.Logic.{_⊎_, inl, inr, ⊎-elim}
-use mathlib.Core.Path.{_≡_, refl, sym, _∙_, ap, subst}
+use mathlib.Core.List.{_∷_}
+use mathlib.Core.Logic.{⊎-elim}
+use mathlib.Core.Path.{_≡_, refl, sym, _∙_, ap}
 use Prim.Native.Nat.{ℕ, zero, suc, _+_, _-_, _<_, _≤_}
 use native.Mathlib.Omega.{arith}
 use lib.Dec.{ltb, leb, eqb}
-use lib.ListN.{length, take, drop, getD}
+use lib.ListN.{length, drop, getD}
 use lib.Seq.{drop-cons}
 use Rattle.protocol.specs.Bytes.{Bytes}
 use Rattle.protocol.specs.Pdus.{Amd}
 use Rattle.protocol.specs.Receiving as far
-use Rattle.protocol.specs.Searching.{seek}
 use Rattle.protocol.proofs.Invariants.{Part-of, Partial-sound}
-use Rattle.protocol.proofs.Seeks.{seek-from, seek-to, seek-found, seek-before}
+use Rattle.protocol.proofs.Seeks.{seek-from, seek-found, seek-before}
 use Rattle.protocol.proofs.Walks.{some-none}
 use Rattle.std.proofs.shelf.Lists.{getD-take, getD-drop, drop-all}
-use Rattle.std.proofs.shelf.Tests.{both-ways, cases-lt, eqb-true, eq-eqb, ne-eqb, le-leb, le-ltb, ltb-true, ltb-false, leb-false, not-true, not-false, not-from-true, or-from, or-parts, and-left, and-right}
+use Rattle.std.proofs.shelf.Tests.{both-ways, cases-lt, eqb-true, eq-eqb, ne-eqb, le-leb, le-ltb, ltb-false, leb-false, not-true, not-false, not-from-true, or-from, or-parts}
 use Rattle.std.specs.Options.{isSome}
 use Rattle.std.specs.declared.option.Option.{Option}
 use Rattle.std.specs.declared.option.Option.the-variants.{Some, None}

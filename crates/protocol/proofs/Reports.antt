@@ -1,5 +1,5 @@
 -- A status report of a sound far end: what is not complete below its ACK count is named, and it is read as it was made.
-use mathlib.Core.Bool.{Bool, true, false, cond, not, _&&_, _||_}
+use mathlib.Core.Bool.{Bool, true, false, cond, not, _&&_}
 use mathlib.Core.List.{List, [], _∷_, _++_}
 use mathlib.Core.Logic.{_⊎_, inl, inr, ⊎-elim}
 use mathlib.Core.Path.{_≡_, refl, sym, _∙_, ap, subst}
@@ -11,26 +11,23 @@ use lib.ListN.{length, length-append}
 use Rattle.protocol.specs.Bytes.{Bytes}
 use Rattle.protocol.specs.Laws.{Missing-fits, Entries-fit, Fits}
 use Rattle.protocol.specs.Numbers.{sn-modulus, ahead}
-use Rattle.protocol.specs.Pdus.{Missing, every, span, Entry, Pdu, status, encode, encode-entry, encode-entries, encode-status, more}
+use Rattle.protocol.specs.Pdus.{every, Entry, Pdu, status, encode, encode-entry, encode-entries, encode-status, more}
 use Rattle.protocol.specs.Reading.{in-order, valid, decode}
 use Rattle.protocol.specs.Receiving as far
-use Rattle.protocol.specs.Refusals.{at, unless}
+use Rattle.protocol.specs.Refusals.{unless}
 use Rattle.protocol.specs.Sending as near
 use Rattle.protocol.specs.Writing.{entries-fault, pdu-fault}
 use Rattle.protocol.specs.declared.faults.End.the-variants.{Near}
-use Rattle.protocol.specs.declared.faults.Fault.{Fault}
-use Rattle.protocol.specs.declared.faults.Refusal.the-variants.{InvalidEntry}
 use Rattle.protocol.proofs.FarKept.{sdu-short}
 use Rattle.protocol.proofs.Formats.{written-reads-back}
 use Rattle.protocol.proofs.Invariants.{Packets, sdu, Partial-sound, Far-sound}
 use Rattle.protocol.proofs.Seeks.{seek-from, seek-to, seek-found}
 use Rattle.std.proofs.shelf.Elements.{all-append, all-weaker}
-use Rattle.std.proofs.shelf.Tests.{both-ways, cases-eq, cases-lt, cond-true, cond-false, cond-both, eq-eqb, le-leb, leb-true, ltb-true, ltb-false, not-true, and-from, or-left, or-right}
+use Rattle.std.proofs.shelf.Tests.{both-ways, cases-eq, cases-lt, cond-true, cond-both, eq-eqb, le-leb, leb-true, ltb-true, ltb-false, not-true, and-from, or-left, or-right}
 use Rattle.std.specs.Options.{isSome}
 use Rattle.std.specs.declared.option.Option.{Option}
 use Rattle.std.specs.declared.option.Option.the-variants.{Some, None}
-use Rattle.std.specs.declared.result.Result.{Result}
-use Rattle.std.specs.declared.result.Result.the-variants.{Ok, Err}
+use Rattle.std.specs.declared.result.Result.the-variants.{Ok}
 use Rattle.std.specs.shelf.Lists.{All}
 
 -- some entry names count y
