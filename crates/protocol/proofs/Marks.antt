@@ -1,16 +1,14 @@
 -- Where a search ends, and the bytes of an SDU that have a mark.
 use mathlib.Core.Bool.{Bool, true, false, cond, not}
-use mathlib.Core.List.{List, [], _∷_}
-use mathlib.Core.Logic.{_⊎_, inl, inr, ⊎-elim}
+use mathlib.Core.Logic.{_⊎_, inl, inr}
 use mathlib.Core.Path.{_≡_, refl, sym, _∙_, ap}
 use Prim.Native.Nat.{ℕ, zero, suc, _+_, _-_, _<_, _≤_}
 use native.Mathlib.Omega.{arith}
-use lib.Dec.{ltb, leb, eqb}
 use lib.ListN.{length}
 use Rattle.protocol.proofs.Seeks.{seek-from, seek-to, seek-found, seek-before, seek-least}
 use Rattle.protocol.specs.Searching.{seek}
 use Rattle.protocol.specs.Sending as near
-use Rattle.std.proofs.shelf.Tests.{both-ways, cases-bool, cases-order, ltb-true, lt-ltb, le-ltb, not-from-true, not-from-false, not-false}
+use Rattle.std.proofs.shelf.Tests.{both-ways, cases-bool, cases-order, ltb-true, lt-ltb, not-from-true, not-from-false, not-false}
 use Rattle.std.proofs.shelf.Ways.{same-from-decides}
 
 -- a search ends at k, if nothing before k passes, and k does unless it is the end
@@ -35,9 +33,6 @@ seek-past test (suc n) i some fails = go (test i) fails
     go false e = omega (arith, seek-from test n (suc i))
 
 module _ (test : near.Mark → Bool) (s : near.Sdu) where
-
-
-
   pub has-found : near.has test s ≡ true
       → (near.byte-from test s 0 < length (s .bytes)) × (test (s .mark (near.byte-from test s 0)) ≡ true)
   has-found h =
@@ -58,9 +53,10 @@ module _ (test : near.Mark → Bool) (s : near.Sdu) where
 pub has-same : (test : near.Mark → Bool) (s t : near.Sdu) → length (s .bytes) ≡ length (t .bytes)
     → ((i : ℕ) → test (s .mark i) ≡ test (t .mark i)) → near.has test s ≡ near.has test t
 has-same test s t long same =
-    same-from-decides (near.has test s) (near.has test t)
-    (λ h. has-at test t (near.byte-from test s 0) (omega (arith, long, has-found test s h .0)) (sym (same _) ∙ has-found test s h .1),
-    λ h. has-at test s (near.byte-from test t 0) (omega (arith, long, has-found test t h .0)) (same _ ∙ has-found test t h .1))
+    same-from-decides (near.has test s) (near.has test t) (
+      λ h. has-at test t (near.byte-from test s 0) (omega (arith, long, has-found test s h .0)) (sym (same _) ∙ has-found test s h .1),
+      λ h. has-at test s (near.byte-from test t 0) (omega (arith, long, has-found test t h .0)) (same _ ∙ has-found test t h .1),
+    )
     (λ h. h, λ h. h)
 
 -- some byte of it was sent

@@ -1,23 +1,20 @@
 -- What the near end keeps: the packets that were accepted stand in its window, and SDUs are begun in their order.
-use mathlib.Core.Bool.{Bool, true, false, cond, not, _&&_}
+use mathlib.Core.Bool.{true, false}
 use mathlib.Core.List.{List, [], _∷_, _++_}
 use mathlib.Core.Logic.{_⊎_, inl, inr, ⊎-elim}
 use mathlib.Core.Path.{_≡_, refl, sym, _∙_, ap, subst}
-use Prim.Native.Nat.{ℕ, zero, suc, _+_, _-_, _%_, _<_, _≤_}
+use Prim.Native.Nat.{ℕ, _+_, _%_, _<_, _≤_}
 use native.Mathlib.Omega.{arith}
-use lib.Dec.{ltb, leb, eqb}
-use lib.ListN.{length, take, drop, getD}
-use Rattle.protocol.proofs.Invariants.{Packets, packet, sdu, Part-of, Near-sound}
-use Rattle.protocol.proofs.Marks.{seek-is, seek-past, has-found, has-at, has-none, begun, not-begun, begun-same, top-from, top-begun, top-is}
-use Rattle.protocol.proofs.Seeks.{seek-from, seek-to, seek-found, seek-before, seek-least, update-same, update-other}
+use lib.ListN.{length, getD}
+use Rattle.protocol.proofs.Invariants.{Packets, sdu, Near-sound}
+use Rattle.protocol.proofs.Marks.{has-at, begun, not-begun, top-from, top-begun, top-is}
+use Rattle.protocol.proofs.Seeks.{update-other}
 use Rattle.protocol.specs.Bytes.{Bytes}
 use Rattle.protocol.specs.Numbers.{sn-modulus}
-use Rattle.protocol.specs.Pdus.{Entry, encode-pdcp}
-use Rattle.protocol.specs.Searching.{seek, update}
+use Rattle.protocol.specs.Pdus.{encode-pdcp}
 use Rattle.protocol.specs.Sending as near
-use Rattle.protocol.specs.Settings.{Settings}
 use Rattle.std.proofs.shelf.Lists.{length-push, getD-append-left, getD-push}
-use Rattle.std.proofs.shelf.Tests.{both-ways, cases-bool, cases-eq, cases-lt, eq-eqb, cond-true, cond-false, false≢true, ltb-true, lt-ltb, le-ltb}
+use Rattle.std.proofs.shelf.Tests.{cases-eq, cases-lt, eq-eqb, cond-true, false≢true}
 
 pub near-new : Near-sound [] near.new-near
 near-new =
@@ -52,7 +49,6 @@ module _ (acc : List Bytes) (n : near.Near) (sound : Near-sound acc n) where
 -- giving a packet ---------------------------------------------------------------------------------------------------
 
 module _ (acc : List Bytes) (n : near.Near) (p : Bytes) (sound : Near-sound acc n) where
-
   given-new : (x : ℕ) → x ≡ n .TX-Next → near.given p n .sdu x ≡ near.unsent-sdu (encode-pdcp (n .TX-NEXT % sn-modulus) p)
   given-new x e = cond-true _ _ _ (eq-eqb x (n .TX-Next) e)
 

@@ -1,14 +1,14 @@
 -- A near end that reads a status report, and one that ticks, stay sound.
 use mathlib.Core.Bool.{Bool, true, false, cond, not, _&&_}
-use mathlib.Core.List.{List, [], _∷_, _++_}
+use mathlib.Core.List.{List}
 use mathlib.Core.Logic.{_⊎_, inl, inr, ⊎-elim}
 use mathlib.Core.Path.{_≡_, refl, sym, _∙_, ap, subst}
-use Prim.Native.Nat.{ℕ, zero, suc, _+_, _-_, _<_, _≤_}
+use Prim.Native.Nat.{ℕ, _-_, _<_, _≤_}
 use native.Mathlib.Omega.{arith}
-use lib.Dec.{ltb, leb, eqb}
+use lib.Dec.{ltb, eqb}
 use lib.ListN.{length}
 use Rattle.protocol.proofs.Invariants.{Near-sound}
-use Rattle.protocol.proofs.Marks.{has-same, begun, not-begun, begun-same, top-from, top-begun, top-is}
+use Rattle.protocol.proofs.Marks.{has-same, begun, begun-same, top-from, top-begun, top-is}
 use Rattle.protocol.proofs.NearKept.{above-top, top-not-begun, unbegun-unsent}
 use Rattle.protocol.proofs.Seeks.{seek-from, seek-to, seek-found, seek-before, update-other}
 use Rattle.protocol.specs.Bytes.{Bytes}
@@ -17,7 +17,7 @@ use Rattle.protocol.specs.Searching.{seek, update}
 use Rattle.protocol.specs.Sending as near
 use Rattle.protocol.specs.Settings.{Settings}
 use Rattle.protocol.specs.Timers.{runs-out}
-use Rattle.std.proofs.shelf.Tests.{and-left, and-parts, both-ways, cases-eq, cases-lt, cond-true, cond-false, eqb-true, false≢true, le-ltb, lt-ltb, ltb-true, not-false, not-true}
+use Rattle.std.proofs.shelf.Tests.{and-left, and-parts, both-ways, cases-lt, cond-true, cond-false, eqb-true, false≢true, le-ltb, lt-ltb, ltb-true, not-false, not-true}
 use Rattle.std.specs.declared.option.Option.{Option}
 use Rattle.std.specs.declared.option.Option.the-variants.{Some, None}
 
@@ -150,7 +150,9 @@ module _ (s : Settings) (acc : List Bytes) (n : near.Near) (ack : ℕ) (es : Lis
   -- what is newly acknowledged: all of it was sent
   read-new : (x : ℕ) → read x .acknowledged ≡ true
       → (n .sdu x .acknowledged ≡ true) ⊎ ((x < ack) × (near.named n es x ≡ false) × (near.has near.is-unsent (n .sdu x) ≡ false))
-  read-new x e = ⊎-elim (λ k. inl (sym (considered-if (consider x) (near.named-byte n es x) (n .sdu x) .1) ∙ k)) (λ k. inr (parts k)) (acknowledge-if (settles x) (near.considered-in n es x) .1 e)
+  read-new x e =
+      ⊎-elim (λ k. inl (sym (considered-if (consider x) (near.named-byte n es x) (n .sdu x) .1) ∙ k)) (λ k. inr (parts k))
+      (acknowledge-if (settles x) (near.considered-in n es x) .1 e)
     where
       parts : settles x ≡ true → (x < ack) × (near.named n es x ≡ false) × (near.has near.is-unsent (n .sdu x) ≡ false)
       parts k =
@@ -217,7 +219,7 @@ module _ (s : Settings) (acc : List Bytes) (n : near.Near) (ack : ℕ) (es : Lis
 -- a Tick --------------------------------------------------------------------------------------------------------------
 
 -- m is n but for marks and counters
-pub record Settled-kept (acc : List Bytes) (n m : near.Near) : Type 0 where
+pub record Ticked-kept (acc : List Bytes) (n m : near.Near) : Type 0 where
   pub sound : Near-sound acc m
   pub same-top : near.top m ≡ near.top n
   pub same-first : m .TX-Next-Ack ≡ n .TX-Next-Ack
@@ -236,10 +238,10 @@ highest-in-window n x = go (near.top n) (n .TX-Next-Ack) _ _ refl
 
 module _ (s : Settings) (acc : List Bytes) (n : near.Near) (sound : Near-sound acc n) where
   -- m differs in SDUs of the window alone, and not in their unsent bytes
-  settled : (m : near.Near) → m .TX-NEXT ≡ n .TX-NEXT → m .TX-Next ≡ n .TX-Next → m .TX-Next-Ack ≡ n .TX-Next-Ack
+  all-but-marks : (m : near.Near) → m .TX-NEXT ≡ n .TX-NEXT → m .TX-Next ≡ n .TX-Next → m .TX-Next-Ack ≡ n .TX-Next-Ack
       → ((x : ℕ) → (x < n .TX-Next-Ack) ⊎ (n .TX-Next ≤ x) → m .sdu x ≡ n .sdu x)
-      → ((x : ℕ) → Same-unsent (m .sdu x) (n .sdu x) × (m .sdu x .acknowledged ≡ n .sdu x .acknowledged)) → Settled-kept acc n m
-  settled m count next first outside same =
+      → ((x : ℕ) → Same-unsent (m .sdu x) (n .sdu x) × (m .sdu x .acknowledged ≡ n .sdu x .acknowledged)) → Ticked-kept acc n m
+  all-but-marks m count next first outside same =
       let moved : Moved n m =
       record {
         same-count = count;
@@ -260,27 +262,28 @@ module _ (s : Settings) (acc : List Bytes) (n : near.Near) (sound : Near-sound a
         same-acknowledged = λ x. same x .1;
       }
 
-  polls-only : (p : near.Polling) → Settled-kept acc n (near.with-polling n p)
-  polls-only p = settled (near.with-polling n p) refl refl refl (λ x l. refl) (λ x. (record { bytes = refl; unsent = λ i. refl }, refl))
+  polls-only : (p : near.Polling) → Ticked-kept acc n (near.with-polling n p)
+  polls-only p = all-but-marks (near.with-polling n p) refl refl refl (λ x l. refl) (λ x. (record { bytes = refl; unsent = λ i. refl }, refl))
 
-  considers : (o : Option ℕ) → near.highest-sent n ≡ o → Settled-kept acc n (near.failed-if s (near.considered-all o (near.owing n)))
+  considers : (o : Option ℕ) → near.highest-sent n ≡ o → Ticked-kept acc n (near.failed-if s (near.considered-all o (near.owing n)))
   considers None e =
-      settled (near.failed-if s (near.owing n)) refl refl refl (λ x l. refl) (λ x. (record { bytes = refl; unsent = λ i. refl }, refl))
+      all-but-marks (near.failed-if s (near.owing n)) refl refl refl (λ x l. refl) (λ x. (record { bytes = refl; unsent = λ i. refl }, refl))
   considers (Some y) e =
-      settled after refl refl refl
+      all-but-marks after refl refl refl
       (λ x l. update-other (n .sdu) y _ x (λ k. ⊎-elim (λ h. omega (arith, h, k, in-window)) (λ h. omega (arith, h, k, in-window, sound .begun)) l))
       (λ x. considered-at (λ i. true) (n .sdu) y x)
     where
       after : near.Near
       after = near.failed-if s (near.considered-all (Some y) (near.owing n))
+
       in-window : (n .TX-Next-Ack ≤ y) × (y < near.top n)
       in-window = highest-in-window n y e
 
-  pub near-ticked : Settled-kept acc n (near.tick-near s n)
+  pub near-ticked : Ticked-kept acc n (near.tick-near s n)
   near-ticked = go _ (runs-out (n .polling .t-PollRetransmit)) (near.nothing-to-send n)
     where
       go : (p : near.Polling) (a b : Bool)
-          → Settled-kept acc n (cond a (cond b (near.failed-if s (near.considered-all (near.highest-sent n) (near.owing n))) (near.owing n)) (near.with-polling n p))
+          → Ticked-kept acc n (cond a (cond b (near.failed-if s (near.considered-all (near.highest-sent n) (near.owing n))) (near.owing n)) (near.with-polling n p))
       go p true true = considers (near.highest-sent n) refl
       go p true false = polls-only (near.owing n .polling)
       go p false b = polls-only p

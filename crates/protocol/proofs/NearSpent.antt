@@ -1,27 +1,25 @@
 -- A near end that spends a grant stays sound, and sends a true part of an SDU.
-use mathlib.Core.Bool.{Bool, true, false, cond, not, _&&_}
-use mathlib.Core.List.{List, [], _∷_, _++_}
+use mathlib.Core.Bool.{Bool, true, false, cond, not}
+use mathlib.Core.List.{List}
 use mathlib.Core.Logic.{_⊎_, inl, inr, ⊎-elim}
 use mathlib.Core.Path.{_≡_, refl, sym, _∙_, ap, subst}
-use Prim.Native.Nat.{ℕ, zero, suc, _+_, _-_, _%_, min, _<_, _≤_}
+use Prim.Native.Nat.{ℕ, _+_, _-_, _%_, min, _<_, _≤_}
 use native.Mathlib.Omega.{arith}
-use lib.Dec.{ltb, leb, eqb}
-use lib.ListN.{length, take, drop, getD, length-drop, length-append}
-use Rattle.protocol.proofs.Invariants.{Packets, packet, sdu, Part-of, Near-sound}
-use Rattle.protocol.proofs.Marks.{seek-is, seek-past, has-found, has-at, has-none, begun, not-begun, begun-same, top-from, top-begun, top-is}
+use lib.Dec.{ltb, eqb}
+use lib.ListN.{length, take, drop, length-drop, length-append}
+use Rattle.protocol.proofs.Invariants.{sdu, Part-of, Near-sound}
+use Rattle.protocol.proofs.Marks.{seek-past, has-found, has-at, begun, not-begun, top-from, top-begun, top-is}
 use Rattle.protocol.proofs.NearKept.{above-top, unbegun-unsent}
-use Rattle.protocol.proofs.Seeks.{seek-from, seek-to, seek-found, seek-before, seek-least, update-same, update-other}
+use Rattle.protocol.proofs.Seeks.{seek-from, seek-to, seek-found, seek-least, update-other}
 use Rattle.protocol.specs.Bytes.{Bytes}
 use Rattle.protocol.specs.Numbers.{sn-modulus}
-use Rattle.protocol.specs.Pdus.{Segment, Amd, amd, so-field, encode, encode-pdcp}
+use Rattle.protocol.specs.Pdus.{Amd, amd, so-field, encode}
 use Rattle.protocol.specs.Receiving as far
-use Rattle.protocol.specs.Searching.{seek, update}
 use Rattle.protocol.specs.Sending as near
 use Rattle.protocol.specs.Settings.{Settings}
 use Rattle.std.proofs.shelf.Lists.{length-take-le}
-use Rattle.std.proofs.shelf.Tests.{both-ways, cases-bool, cases-eq, cases-lt, eq-eqb, eqb-true, eqb-false, cond-true, cond-false, false≢true, ltb-true, lt-ltb, le-leb, le-ltb, and-from, not-from-true}
+use Rattle.std.proofs.shelf.Tests.{both-ways, cases-eq, cases-lt, eq-eqb, eqb-true, eqb-false, cond-true, ltb-true, lt-ltb, le-leb, and-from, not-from-true}
 use Rattle.std.proofs.shelf.Ways.{tells}
-use Rattle.std.specs.declared.option.Option.{Option}
 use Rattle.std.specs.declared.option.Option.the-variants.{Some, None}
 
 -- the PDU of some bytes -----------------------------------------------------------------------------------------------
@@ -84,6 +82,7 @@ run-lengths test s g h enough =
   where
     h′ : (near.byte-from test s 0 < length (s .bytes)) × (test (s .mark (near.byte-from test s 0)) ≡ true)
     h′ = has-found test s h
+
     over : (from end long : ℕ) → from < long → from < end → end ≤ from + (long - from)
         → let size = min (end - from) (g - cond (eqb from 0) 2 4) in
         (1 ≤ size) × (from + size ≤ long) × (cond (eqb from 0) 2 4 + size ≤ g)
@@ -107,11 +106,17 @@ module _ (acc : List Bytes) (n : near.Near) (g : ℕ) (sound : Near-sound acc n)
 
   -- what is pending was begun
   pending-begun : (x : ℕ) → near.has near.is-pending (n .sdu x) ≡ true → x ≤ near.top n
-  pending-begun x h = ⊎-elim (λ l. omega (arith, l)) (λ l. absurd (both-ways _ (ap near.is-pending (above-top acc n sound x _ l)) (has-found near.is-pending (n .sdu x) h .1))) (cases-lt x (near.top n))
+  pending-begun x h =
+      ⊎-elim (λ l. omega (arith, l))
+      (λ l. absurd (both-ways _ (ap near.is-pending (above-top acc n sound x _ l)) (has-found near.is-pending (n .sdu x) h .1)))
+      (cases-lt x (near.top n))
+
+  -- unsent bytes are sent in the order of their SDUs
 
   unsent-begun : near.has near.is-unsent (n .sdu (near.count-with near.is-unsent n)) ≡ true → near.count-with near.is-unsent n ≤ near.top n
   unsent-begun h =
-      ⊎-elim (λ l. seek-least (λ x. near.has near.is-unsent (n .sdu x)) near.window-size (n .TX-Next-Ack) (near.top n) (top-from n) (unbegun-unsent acc n sound (near.top n) (omega arith) l))
+      ⊎-elim (λ l. seek-least (λ x. near.has near.is-unsent (n .sdu x)) near.window-size (n .TX-Next-Ack) (near.top n) (top-from n)
+      (unbegun-unsent acc n sound (near.top n) (omega arith) l))
       (λ l. omega (arith, l, in-window near.is-unsent (near.count-with near.is-unsent n) h)) (cases-lt (near.top n) (n .TX-Next))
 
   found : (test : near.Mark → Bool) → ltb (near.count-with test n) (n .TX-Next-Ack + near.window-size) ≡ true
@@ -150,7 +155,6 @@ pub record Spent-kept (s : Settings) (acc : List Bytes) (n : near.Near) (g : ℕ
   pub some : 1 ≤ length (encode (amd (near.amd-of-run s run n)))
 
 module _ (s : Settings) (acc : List Bytes) (n : near.Near) (g : ℕ) (run : near.Run) (sound : Near-sound acc n) (fit : Fit-run n g run) where
-
   spent-here : (x : ℕ) → x ≡ run .count → near.spent s run n .sdu x ≡ near.sent-run run (n .sdu (run .count))
   spent-here x e = cond-true _ _ _ (eq-eqb x (run .count) e)
 
@@ -178,18 +182,17 @@ module _ (s : Settings) (acc : List Bytes) (n : near.Near) (g : ℕ) (run : near
       cond-true _ _ _ (and-from _ _ (le-leb (run .from) (run .from) (omega arith)) (lt-ltb (run .from) (run .from + run .size) (omega (arith, fit .some)))) in
       has-at (λ m. not (near.is-unsent m)) (near.sent-run run (n .sdu (run .count))) (run .from) (omega (arith, fit .inside, fit .some)) (ap (λ m. not (near.is-unsent m)) m)
 
-  spent-begun : (x : ℕ) → n .TX-Next-Ack ≤ x → (x < near.top n) ⊎ (x ≡ run .count) → begun (near.spent s run n .sdu x) ≡ true
-  spent-begun x lo (inr e) = ap begun (spent-here x e) ∙ run-begun
-  spent-begun x lo (inl l) = go (cases-eq x (run .count))
+  spent-begun : (x : ℕ) → n .TX-Next-Ack ≤ x → ((x ≡ run .count → ⊥) → x < near.top n) → begun (near.spent s run n .sdu x) ≡ true
+  spent-begun x lo l = go (cases-eq x (run .count))
     where
       go : (x ≡ run .count) ⊎ (x ≡ run .count → ⊥) → begun (near.spent s run n .sdu x) ≡ true
       go (inl e) = ap begun (spent-here x e) ∙ run-begun
-      go (inr d) = ap begun (spent-other x d) ∙ top-begun n x lo l
+      go (inr d) = ap begun (spent-other x d) ∙ top-begun n x lo (l d)
 
   spent-mark : (x i : ℕ) → near.top n ≤ x → run .count < x → near.spent s run n .sdu x .mark i ≡ near.unsent
   spent-mark x i lo l = ap (λ t. t .mark i) (spent-other x (λ e. omega (arith, e, l))) ∙ above-top acc n sound x i lo
 
-  -- a run of an SDU that was not begun begins the next one
+  -- a run of the first SDU that was not begun moves `top` on
   spent-top : ((run .count < near.top n) × (near.top (near.spent s run n) ≡ near.top n))
       ⊎ ((run .count ≡ near.top n) × (near.top (near.spent s run n) ≡ near.top n + 1))
   spent-top = go (cases-lt (run .count) (near.top n))
@@ -198,13 +201,20 @@ module _ (s : Settings) (acc : List Bytes) (n : near.Near) (g : ℕ) (run : near
           → ((run .count < near.top n) × (near.top (near.spent s run n) ≡ near.top n))
           ⊎ ((run .count ≡ near.top n) × (near.top (near.spent s run n) ≡ near.top n + 1))
       go (inl l) =
-          inl (l, top-is (near.spent s run n) (near.top n) (top-from n) (omega (arith, sound .begun, sound .window))
-          (λ x lo hi. spent-begun x lo (inl hi)) (not-begun (near.spent s run n .sdu (near.top n)) (λ i. spent-mark (near.top n) i (omega arith) l)))
+          inl (
+            l,
+            top-is (near.spent s run n) (near.top n) (top-from n) (omega (arith, sound .begun, sound .window))
+                (λ x lo hi. spent-begun x lo (λ d. hi))
+                (not-begun (near.spent s run n .sdu (near.top n)) (λ i. spent-mark (near.top n) i (omega arith) l)),
+          )
       go (inr l) =
           let e : run .count ≡ near.top n = omega (arith, l, fit .begun-to) in
-          inr (e, top-is (near.spent s run n) (near.top n + 1) (omega (arith, top-from n)) (omega (arith, e, fit .high, sound .window))
-          (λ x lo hi. spent-begun x lo (⊎-elim inl (λ h. inr (omega (arith, h, hi, e))) (cases-lt x (near.top n))))
-          (not-begun (near.spent s run n .sdu (near.top n + 1)) (λ i. spent-mark (near.top n + 1) i (omega arith) (omega (arith, e)))))
+          inr (
+            e,
+            top-is (near.spent s run n) (near.top n + 1) (omega (arith, top-from n)) (omega (arith, e, fit .high, sound .window))
+                (λ x lo hi. spent-begun x lo (λ d. omega (arith, d, hi, e)))
+                (not-begun (near.spent s run n .sdu (near.top n + 1)) (λ i. spent-mark (near.top n + 1) i (omega arith) (omega (arith, e)))),
+          )
 
   top-bounds : (near.top n ≤ near.top (near.spent s run n)) × (near.top (near.spent s run n) ≤ near.top n + 1)
       × (run .count < near.top (near.spent s run n)) × (near.top (near.spent s run n) ≤ n .TX-Next)
@@ -240,7 +250,8 @@ module _ (s : Settings) (acc : List Bytes) (n : near.Near) (g : ℕ) (run : near
         low = fit .low;
         high = fit .high;
         begun = top-bounds .2;
-        part = subst (λ b. Part-of b (run .count) (near.amd-of-run s run n)) (sound .bytes (run .count) (fit .low) (fit .high)) (part-is (near.polls s run n) bytes (run .count) (run .from) (run .size) (fit .some) (fit .inside));
+        part = subst (λ b. Part-of b (run .count) (near.amd-of-run s run n)) (sound .bytes (run .count) (fit .low) (fit .high))
+            (part-is (near.polls s run n) bytes (run .count) (run .from) (run .size) (fit .some) (fit .inside));
         top-grows = top-bounds .0;
         top-by-one = top-bounds .1;
         same-first = refl;
