@@ -22,7 +22,7 @@ use Rattle.protocol.specs.Pdus.{Amd, Entry, amd, status, encode}
 use Rattle.protocol.specs.Receiving as far
 use Rattle.protocol.specs.Runs.{State, new-state}
 use Rattle.protocol.specs.Sending as near
-use Rattle.std.proofs.shelf.Tests.{both-ways, cases-lt, cases-bool, cond-true, cond-false}
+use Rattle.std.proofs.shelf.Tests.{both-ways, cases-lt, ltb-true}
 use Rattle.std.specs.shelf.Lists.{All}
 
 -- numbers that are read with a base ------------------------------------------------------------------------------------
@@ -46,6 +46,7 @@ pub record Data (acc : List Bytes) (top : ℕ) (w : Waiting) : Type 0 where
   pub true-part : Part-of (sdu acc count) count part
   pub begun : count < top
   pub young : top ≤ count + 16 + w .age
+  pub recent : w .age < 64
 
 -- A report speaks the truth: what it acknowledges and does not name is complete. `most` bounds what any report has
 -- acknowledged, and a report that waits is not far below it.
@@ -56,6 +57,7 @@ pub record Told (f : far.Far) (most : ℕ) (w : Waiting) : Type 0 where
   pub fit : Entries-fit entries
   pub ack-to : ack ≤ most
   pub young : most ≤ ack + 16 + 16 * w .age
+  pub recent : w .age < 64
   pub true-report : (x : ℕ) → x < ack → (Names x entries → ⊥) → far.complete (f .sdu x) ≡ true
 
 -- the whole ---------------------------------------------------------------------------------------------------------
@@ -130,14 +132,15 @@ module _ {acc got : List Bytes} {ran : Bool} {r : State} (sound : Link-sound acc
 -- airs --------------------------------------------------------------------------------------------------------------
 
 -- after a Put: each is older by one, and the new PDU is there
-module _ (P Q : Waiting → Type 0) (older : (w : Waiting) → P w → Q (record { pdu = w .pdu; age = suc (w .age) })) where
+module _ (P Q : Waiting → Type 0) (older : (w : Waiting) → suc (w .age) < 64 → P w → Q (record { pdu = w .pdu; age = suc (w .age) })) where
   aged-all : (ws : List Waiting) → All P ws → All Q (aged ws)
   aged-all [] all = tt
-  aged-all (w ∷ ws) all = go (ltb (suc (w .age)) age-limit) (aged-all ws (all .1))
+  aged-all (w ∷ ws) all = go (ltb (suc (w .age)) age-limit) refl (aged-all ws (all .1))
     where
-      go : (young : Bool) → All Q (aged ws) → All Q (cond young (record { pdu = w .pdu; age = suc (w .age) } ∷ aged ws) (aged ws))
-      go true rest = (older w (all .0), rest)
-      go false rest = rest
+      go : (young : Bool) → ltb (suc (w .age)) age-limit ≡ young → All Q (aged ws)
+          → All Q (cond young (record { pdu = w .pdu; age = suc (w .age) } ∷ aged ws) (aged ws))
+      go true e rest = (older w (ltb-true (suc (w .age)) age-limit e) (all .0), rest)
+      go false e rest = rest
 
   all-push : (ws : List Waiting) (w : Waiting) → All Q ws → Q w → All Q (ws ++ w ∷ [])
   all-push [] w all q = (q, tt)

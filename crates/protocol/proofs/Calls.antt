@@ -8,14 +8,14 @@ use native.Mathlib.Omega.{arith}
 use lib.Dec.{eqb, ltb, leb}
 use lib.ListN.{length, take}
 use Rattle.protocol.proofs.Between.{read-ahead, read-behind, Data, Told, Link-sound, ack-behind, next-behind, top-window, ack-most, put-all, all-map, all-at}
-use Rattle.protocol.proofs.FarKept.{Same-sdus, Taken, far-given, sdu-given, sdu-short, far-taken, far-discarded, far-reported, far-ticked}
+use Rattle.protocol.proofs.FarKept.{Same-sdus, Taken, far-given, sdu-given, sdu-short, far-taken, far-arrives, far-discarded, far-reported, far-ticked}
 use Rattle.protocol.proofs.Formats.{written-reads-back}
 use Rattle.protocol.proofs.Invariants.{Packets, Part-of, packet, sdu, Near-sound, Far-sound, Pdcp-sound}
 use Rattle.protocol.proofs.NearKept.{near-given, given-acknowledged, given-top}
-use Rattle.protocol.proofs.NearMoved.{Reported-kept, near-reported, Settled-kept, near-ticked}
+use Rattle.protocol.proofs.NearMoved.{Reported-kept, near-reported, Ticked-kept, near-ticked}
 use Rattle.protocol.proofs.NearSpent.{Spent-kept, near-spent}
 use Rattle.protocol.proofs.Partials.{part-fits}
-use Rattle.protocol.proofs.PdcpKept.{Held, given-sound, handed-sound, collected-sound, collected-keeps, ticked-sound, ticked-keeps}
+use Rattle.protocol.proofs.PdcpKept.{Held, given-sound, Handed, handed-sound, collected-sound, collected-keeps, ticked-sound, ticked-keeps}
 use Rattle.protocol.proofs.Reports.{Names, Reports, report-right, report-pdu, report-fits, unnamed-complete, named-in}
 use Rattle.protocol.proofs.Strikes.{all-within}
 use Rattle.protocol.specs.Airs.{Waiting, Within, Waits, Lets-out, takes, Takes}
@@ -23,12 +23,15 @@ use Rattle.protocol.specs.Bytes.{Bytes}
 use Rattle.protocol.specs.Laws.{Fits}
 use Rattle.protocol.specs.Links as link
 use Rattle.protocol.specs.Pdus.{Amd, Pdu, amd, status, encode}
+use Rattle.protocol.specs.Reading.{decode}
 use Rattle.protocol.specs.Receiving as far
+use Rattle.protocol.specs.Refusals.{unless}
 use Rattle.protocol.specs.Reordering as pdcp
 use Rattle.protocol.specs.Runs.{State, Event, Puts, Still}
 use Rattle.protocol.specs.Sending as near
 use Rattle.protocol.specs.Settings.{Settings, between}
 use Rattle.protocol.specs.Timers.{runs-out}
+use Rattle.protocol.specs.Writing.{pdu-fault}
 use Rattle.protocol.specs.declared.faults.End.{End}
 use Rattle.protocol.specs.declared.faults.End.the-variants.{Near, Far}
 use Rattle.protocol.specs.declared.faults.Fault.{Fault}
@@ -105,6 +108,7 @@ module _ (acc got : List Bytes) (ran : Bool) (r : State) (sound : Link-sound acc
               (sym (sdu-given acc p (d .count) (omega (arith, d .begun, sound .near-sound .begun, sound .near-sound .next)))) (d .true-part)
           ; begun = omega (arith, d .begun, top-same)
           ; young = omega (arith, d .young, top-same)
+          ; recent = d .recent
           }
 
   -- spending a grant at the near end --------------------------------------------------------------------------------------
@@ -134,8 +138,8 @@ module _ (acc got : List Bytes) (ran : Bool) (r : State) (sound : Link-sound acc
       after : Spent-kept s acc (r .link .near) g run
       after = near-spent s acc (r .link .near) g run (sound .near-sound) big served
 
-      older : (w : Waiting) → Data acc (near.top (r .link .near)) w → Data acc (near.top (near.spent s run (r .link .near))) (record { pdu = w .pdu; age = suc (w .age) })
-      older w d =
+      older : (w : Waiting) → suc (w .age) < 64 → Data acc (near.top (r .link .near)) w → Data acc (near.top (near.spent s run (r .link .near))) (record { pdu = w .pdu; age = suc (w .age) })
+      older w recent d =
           record
           { count = d .count
           ; part = d .part
@@ -143,6 +147,7 @@ module _ (acc got : List Bytes) (ran : Bool) (r : State) (sound : Link-sound acc
           ; true-part = d .true-part
           ; begun = omega (arith, d .begun, near-spent s acc (r .link .near) g run (sound .near-sound) big served .top-grows)
           ; young = omega (arith, d .young, near-spent s acc (r .link .near) g run (sound .near-sound) big served .top-by-one)
+          ; recent = recent
           }
 
       new : Data acc (near.top (near.spent s run (r .link .near))) (record { pdu = encode (amd (near.amd-of-run s run (r .link .near))); age = 0 })
@@ -155,6 +160,7 @@ module _ (acc got : List Bytes) (ran : Bool) (r : State) (sound : Link-sound acc
           ; true-part = k .part
           ; begun = k .begun
           ; young = omega (arith, k .sound .begun, k .sound .window, k .same-first, k .low)
+          ; recent = omega arith
           }
 
   -- spending a grant at the far end -----------------------------------------------------------------------------------------
@@ -188,9 +194,9 @@ module _ (acc got : List Bytes) (ran : Bool) (r : State) (sound : Link-sound acc
       close =
           omega (arith, report-right acc (r .link .far) g (sound .near-sound .packets) (sound .far-sound) .ack-to, sound .far-sound .status-to, sound .seen, sound .near-sound .begun, sound .near-sound .window, ack-most sound)
 
-      older : (w : Waiting) → Told (r .link .far) (sound .most) w
+      older : (w : Waiting) → suc (w .age) < 64 → Told (r .link .far) (sound .most) w
           → Told (far.reported s (r .link .far)) (max (sound .most) (far.report (r .link .far) g .ack)) (record { pdu = w .pdu; age = suc (w .age) })
-      older w t =
+      older w recent t =
           record
           { ack = t .ack
           ; entries = t .entries
@@ -198,6 +204,7 @@ module _ (acc got : List Bytes) (ran : Bool) (r : State) (sound : Link-sound acc
           ; fit = t .fit
           ; ack-to = omega (arith, t .ack-to)
           ; young = omega (arith, t .young, close)
+          ; recent = recent
           ; true-report = t .true-report
           }
 
@@ -210,6 +217,7 @@ module _ (acc got : List Bytes) (ran : Bool) (r : State) (sound : Link-sound acc
           ; fit = report-fits acc (r .link .far) g (sound .near-sound .packets) (sound .far-sound) .1
           ; ack-to = omega arith
           ; young = omega (arith, right .ack-from, sound .most-to, sound .far-sound .window)
+          ; recent = omega arith
           ; true-report = λ x l unnamed. unnamed-complete acc (r .link .far) g x (sound .near-sound .packets) (sound .far-sound) l unnamed
           }
 
@@ -232,7 +240,7 @@ module _ (acc got : List Bytes) (ran : Bool) (r : State) (sound : Link-sound acc
       ; back = sound .back
       }
     where
-      k : Settled-kept acc (r .link .near) (near.tick-near s (r .link .near))
+      k : Ticked-kept acc (r .link .near) (near.tick-near s (r .link .near))
       k = near-ticked s acc (r .link .near) (sound .near-sound)
 
   -- what is told of SDUs that are as they were
@@ -245,6 +253,7 @@ module _ (acc got : List Bytes) (ran : Bool) (r : State) (sound : Link-sound acc
       ; fit = t .fit
       ; ack-to = t .ack-to
       ; young = t .young
+      ; recent = t .recent
       ; true-report = λ x l unnamed. stays x (t .true-report x l unnamed)
       }
 
@@ -273,3 +282,146 @@ module _ (acc got : List Bytes) (ran : Bool) (r : State) (sound : Link-sound acc
 
       holds : ((x : ℕ) → Held acc got ran (r .link .pdcp) x → Held acc got ran (pdcp.tick-pdcp s (r .link .pdcp)) x) × (pdcp.tick-pdcp s (r .link .pdcp) .RX-NEXT ≡ r .link .pdcp .RX-NEXT)
       holds = ticked-keeps acc got ran s (r .link .pdcp) (sound .pdcp-sound)
+
+  -- a status report arrives at the near end --------------------------------------------------------------------------------
+
+  -- one that is not stale is read with the counts that it was written with
+  pub acknowledged-by : (s : Settings) (w : Waiting) (t : Told (r .link .far) (sound .most) w)
+      → ltb (r .link .near .TX-Next) (near.tx-count (r .link .near) (t .ack % 4096)) ≡ false
+      → Link-sound acc got ran
+        (state (link.with-near (r .link) (near.reported s (near.tx-count (r .link .near) (t .ack % 4096)) (t .entries) (r .link .near))) (r .forward) (r .back))
+  acknowledged-by s w t fresh =
+      subst (λ a. Link-sound acc got ran (state (link.with-near (r .link) (near.reported s a (t .entries) (r .link .near))) (r .forward) (r .back))) (sym as-written)
+      (record
+      { near-sound = k .sound
+      ; far-sound = sound .far-sound
+      ; pdcp-sound = sound .pdcp-sound
+      ; acknowledged = λ x e. ⊎-elim (sound .acknowledged x) (λ new. newly x new e) (k .was-reported x e)
+      ; complete = sound .complete
+      ; seen = omega (arith, sound .seen, k .same-top)
+      ; next = sound .next
+      ; forward = subst (λ top. All (Data acc top) (r .forward)) (sym (k .same-top)) (sound .forward)
+      ; most = sound .most
+      ; most-to = sound .most-to
+      ; acknowledged-to = λ x e. ⊎-elim (sound .acknowledged-to x) (λ new. omega (arith, new .0, t .ack-to)) (k .was-reported x e)
+      ; back = sound .back
+      })
+    where
+      n : near.Near
+      n = r .link .near
+
+      -- a report from before the window would be read far beyond TX-Next
+      not-late : r .link .near .TX-Next-Ack ≤ t .ack
+      not-late =
+          ⊎-elim
+          (λ late.
+            let read = read-behind (r .link .near .TX-Next-Ack) (t .ack) late (omega (arith, ack-most sound, t .young, t .recent)) in
+            absurd (omega (arith, ltb-false _ _ fresh, read, ack-most sound, t .young, t .recent, sound .near-sound .window)))
+          (λ h. h) (cases-lt (t .ack) (r .link .near .TX-Next-Ack))
+
+      inside : t .ack ≤ r .link .near .TX-Next
+      inside = omega (arith, t .ack-to, sound .most-to, sound .seen, sound .near-sound .begun)
+
+      as-written : near.tx-count (r .link .near) (t .ack % 4096) ≡ t .ack
+      as-written = read-ahead (r .link .near .TX-Next-Ack) (t .ack) not-late (omega (arith, inside, sound .near-sound .window))
+
+      k : Reported-kept s acc (r .link .near) (t .ack) (t .entries)
+      k = near-reported s acc (r .link .near) (t .ack) (t .entries) (sound .near-sound) inside
+
+      -- what it acknowledges it does not name, and an entry with the number of x would name x
+      newly : (x : ℕ) → (x < t .ack) × (near.named (r .link .near) (t .entries) x ≡ false)
+          → near.reported s (t .ack) (t .entries) (r .link .near) .sdu x .acknowledged ≡ true → far.complete (r .link .far .sdu x) ≡ true
+      newly x new e =
+          ⊎-elim (λ below. sound .acknowledged x (ap (λ sdu. sdu .acknowledged) (sound .near-sound .below x below)))
+          (λ from.
+            let begun = k .sound .acknowledged x e in
+            let count = read-ahead (r .link .near .TX-Next-Ack) x from (omega (arith, begun, k .same-top, sound .near-sound .begun, sound .near-sound .window)) in
+            t .true-report x (new .0) (λ names. both-ways _ (new .1) (named-in (r .link .near) (t .entries) x count names)))
+          (cases-lt x (r .link .near .TX-Next-Ack))
+
+  pub read-near : (s : Settings) (buffer : Bytes) (w : Waiting) → Told (r .link .far) (sound .most) w
+      → Link-sound acc got ran (state (link.reads s Near (w .pdu) buffer (r .link) .link) (r .forward) (r .back))
+  read-near s buffer w t =
+      subst (λ a. Link-sound acc got ran (state (link.reads-near s a buffer (r .link) .link) (r .forward) (r .back))) (sym read)
+      (by-fault (pdu-fault (status (t .ack % 4096) (t .entries))))
+    where
+      read : decode Near (w .pdu) ≡ unless (pdu-fault (status (t .ack % 4096) (t .entries))) (Ok (status (t .ack % 4096) (t .entries)))
+      read = ap (decode Near) (t .pdu-is) ∙ written-reads-back (status (t .ack % 4096) (t .entries)) (omega arith, t .fit)
+
+      by-stale : (old : Bool) → ltb (r .link .near .TX-Next) (near.tx-count (r .link .near) (t .ack % 4096)) ≡ old
+          → Link-sound acc got ran
+            (state
+            (cond old (link.answering (r .link) (link.arrived link.stale-report (link.number-due (r .link))) buffer)
+            (link.answering (link.with-near (r .link) (near.reported s (near.tx-count (r .link .near) (t .ack % 4096)) (t .entries) (r .link .near))) (link.arrived link.taken (link.number-due (r .link))) buffer)
+            .link)
+            (r .forward) (r .back))
+      by-stale true e = sound
+      by-stale false e = acknowledged-by s w t e
+
+      by-fault : (fault : Option Fault) → Link-sound acc got ran (state (link.reads-near s (unless fault (Ok (status (t .ack % 4096) (t .entries)))) buffer (r .link) .link) (r .forward) (r .back))
+      by-fault (Some fault) = sound
+      by-fault None = by-stale (ltb (r .link .near .TX-Next) (near.tx-count (r .link .near) (t .ack % 4096))) refl
+
+  -- data arrives at the far end ---------------------------------------------------------------------------------------
+
+  -- RLC takes the PDU, and PDCP what is complete then
+  taken-in : (s : Settings) (x : ℕ) (a : Amd) (p : pdcp.Pdcp) → Taken acc x a (r .link .far) (far.taken s x a (r .link .far)) → x < near.top (r .link .near)
+      → Pdcp-sound acc got ran p → ((k : ℕ) → Held acc got ran (r .link .pdcp) k → Held acc got ran p k)
+      → p .RX-NEXT ≤ max (r .link .pdcp .RX-NEXT) (x + 1) → (far.complete (far.received a (r .link .far .sdu x)) ≡ true → Held acc got ran p x)
+      → Link-sound acc got ran (state (record { near = r .link .near; far = far.taken s x a (r .link .far); pdcp = p }) (r .forward) (r .back))
+  taken-in s x a p k begun p-sound keeps next held =
+      record
+      { near-sound = sound .near-sound
+      ; far-sound = k .sound
+      ; pdcp-sound = p-sound
+      ; acknowledged = λ y e. k .completes y (sound .acknowledged y e)
+      ; complete = λ y e. ⊎-elim (λ old. keeps y (sound .complete y old)) (λ new. subst (Held acc got ran p) (sym (new .0)) (held (new .1))) (k .no-other y e)
+      ; seen = omega (arith, sound .seen, k .highest-is, begun)
+      ; next = omega (arith, next, sound .next, k .highest-is)
+      ; forward = sound .forward
+      ; most = sound .most
+      ; most-to = omega (arith, sound .most-to, k .highest-is)
+      ; acknowledged-to = sound .acknowledged-to
+      ; back = all-map (Told (r .link .far) (sound .most)) (Told (far.taken s x a (r .link .far)) (sound .most)) (r .back) (told-same (sound .most) (r .link .far) (far.taken s x a (r .link .far)) (k .completes)) (sound .back)
+      }
+
+  received-in : (s : Settings) (buffer : Bytes) (x : ℕ) (a : Amd) → Taken acc x a (r .link .far) (far.taken s x a (r .link .far)) → x < near.top (r .link .near)
+      → near.top (r .link .near) ≤ x + 79 → Link-sound acc got ran (state (link.takes-in s x a buffer (r .link) .link) (r .forward) (r .back))
+  received-in s buffer x a k begun young = go (far.complete (far.received a (r .link .far .sdu x))) refl
+    where
+      handed : Handed acc got ran s x (r .link .pdcp)
+      handed =
+          handed-sound acc got ran s x (r .link .pdcp) (sound .near-sound .packets) (sound .pdcp-sound)
+          (omega (arith, begun, sound .near-sound .begun, sound .near-sound .next)) (omega (arith, begun, top-window sound, next-behind sound))
+          (omega (arith, young, sound .pdcp-sound .deliv-to, sound .next, sound .seen))
+
+      go : (whole : Bool) → far.complete (far.received a (r .link .far .sdu x)) ≡ whole
+          → Link-sound acc got ran
+            (state
+            (cond whole
+            (link.hands-up (pdcp.handed-up s (far.sdu-bytes (far.received a (r .link .far .sdu x))) (r .link .pdcp)) buffer (link.with-far (r .link) (far.taken s x a (r .link .far))))
+            (link.answering (link.with-far (r .link) (far.taken s x a (r .link .far))) (link.arrived link.kept 0) buffer)
+            .link)
+            (r .forward) (r .back))
+      go true e =
+          subst (λ a′. Link-sound acc got ran (state (link.hands-up a′ buffer (link.with-far (r .link) (far.taken s x a (r .link .far))) .link) (r .forward) (r .back)))
+          (sym (ap (λ bytes. pdcp.handed-up s bytes (r .link .pdcp)) (k .completed e .1) ∙ handed .answer))
+          (taken-in s x a (handed .after) k begun (handed .sound) (handed .keeps) (handed .next) (λ c. handed .held))
+      go false e = taken-in s x a (r .link .pdcp) k begun (sound .pdcp-sound) (λ y h. h) (omega arith) (λ c. absurd (both-ways _ e c))
+
+  discarded-in : (a : Amd) → Link-sound acc got ran (state (link.with-far (r .link) (far.discarded a (r .link .far))) (r .forward) (r .back))
+  discarded-in a =
+      record
+      { near-sound = sound .near-sound
+      ; far-sound = far-discarded acc (r .link .far) a (sound .far-sound)
+      ; pdcp-sound = sound .pdcp-sound
+      ; acknowledged = sound .acknowledged
+      ; complete = sound .complete
+      ; seen = sound .seen
+      ; next = sound .next
+      ; forward = sound .forward
+      ; most = sound .most
+      ; most-to = sound .most-to
+      ; acknowledged-to = sound .acknowledged-to
+      ; back = all-map (Told (r .link .far) (sound .most)) (Told (far.discarded a (r .link .far)) (sound .most)) (r .back) (told-same (sound .most) (r .link .far) (far.discarded a (r .link .far)) (λ x e. e)) (sound .back)
+      }
