@@ -20,12 +20,12 @@ use Rattle.protocol.proofs.Reports.{Names, Reports, report-right, report-pdu, 
 use Rattle.protocol.proofs.Strikes.{all-within}
 use Rattle.protocol.specs.Airs.{Waiting, Within, Waits, Lets-out, takes, Takes}
 use Rattle.protocol.specs.Bytes.{Bytes}
-use Rattle.protocol.specs.Laws.{Fits}
+use Rattle.protocol.specs.Laws.{Segment-fits}
 use Rattle.protocol.specs.Links as link
-use Rattle.protocol.specs.Pdus.{Amd, Pdu, amd, status, encode}
+use Rattle.protocol.specs.Pdus.{Segment, whole, first, middle, last, Amd, Pdu, amd, status, encode}
 use Rattle.protocol.specs.Reading.{decode}
 use Rattle.protocol.specs.Receiving as far
-use Rattle.protocol.specs.Refusals.{unless}
+use Rattle.protocol.specs.Refusals.{at, unless}
 use Rattle.protocol.specs.Reordering as pdcp
 use Rattle.protocol.specs.Runs.{State, Event, Puts, Still}
 use Rattle.protocol.specs.Sending as near
@@ -35,6 +35,7 @@ use Rattle.protocol.specs.Writing.{pdu-fault}
 use Rattle.protocol.specs.declared.faults.End.{End}
 use Rattle.protocol.specs.declared.faults.End.the-variants.{Near, Far}
 use Rattle.protocol.specs.declared.faults.Fault.{Fault}
+use Rattle.protocol.specs.declared.faults.Refusal.the-variants.{EndClash}
 use Rattle.std.proofs.shelf.Tests.{both-ways, cases-lt, cases-bool, cond-true, cond-false, ltb-true, ltb-false, leb-true, leb-false, and-parts, not-true, not-false}
 use Rattle.std.specs.declared.option.Option.{Option}
 use Rattle.std.specs.declared.option.Option.the-variants.{Some, None}
@@ -424,4 +425,79 @@ module _ (acc got : List Bytes) (ran : Bool) (r : State) (sound : Link-sound acc
       ; most-to = sound .most-to
       ; acknowledged-to = sound .acknowledged-to
       ; back = all-map (Told (r .link .far) (sound .most)) (Told (far.discarded a (r .link .far)) (sound .most)) (r .back) (told-same (sound .most) (r .link .far) (far.discarded a (r .link .far)) (λ x e. e)) (sound .back)
+      }
+
+  pub read-far : (s : Settings) (buffer : Bytes) (w : Waiting) → Data acc (near.top (r .link .near)) w
+      → Link-sound acc got ran (state (link.reads s Far (w .pdu) buffer (r .link) .link) (r .forward) (r .back))
+  read-far s buffer w d =
+      subst (λ a. Link-sound acc got ran (state (link.reads-far s a buffer (r .link) .link) (r .forward) (r .back))) (sym read) (by-fault (pdu-fault (amd (d .part))))
+    where
+      a : Amd
+      a = d .part
+
+      small : d .count < length acc
+      small = omega (arith, d .begun, sound .near-sound .begun, sound .near-sound .next)
+
+      so-fits : (segment : Segment) → far.offset segment + length (d .part .payload) ≤ 502 → Segment-fits segment
+      so-fits whole h = tt
+      so-fits first h = tt
+      so-fits (middle so) h = omega (arith, h)
+      so-fits (last so) h = omega (arith, h)
+
+      read : decode Far (w .pdu) ≡ unless (pdu-fault (amd (d .part))) (Ok (amd (d .part)))
+      read =
+          ap (decode Far) (d .pdu-is)
+          ∙ written-reads-back (amd (d .part))
+            (omega (arith, d .true-part .number), so-fits (d .part .segment) (omega (arith, d .true-part .inside, sdu-short acc (d .count) (sound .near-sound .packets) small)))
+
+      x : ℕ
+      x = far.rx-count (r .link .far) (d .part .sn)
+
+      arrives : (far.discards (r .link .far) (far.rx-count (r .link .far) (d .part .sn)) (d .part) ≡ true)
+          ⊎ ((far.rx-count (r .link .far) (d .part .sn) ≡ d .count)
+            × ((far.clashes (r .link .far .sdu (far.rx-count (r .link .far) (d .part .sn))) (d .part) || leb near.packet-limit (far.rx-count (r .link .far) (d .part .sn))) ≡ false)
+            × Taken acc (far.rx-count (r .link .far) (d .part .sn)) (d .part) (r .link .far) (far.taken s (far.rx-count (r .link .far) (d .part .sn)) (d .part) (r .link .far)))
+      arrives =
+          far-arrives s acc (r .link .far) (d .count) (d .part) (sound .near-sound .packets) (sound .far-sound) small (d .true-part)
+          (omega (arith, sound .far-sound .status-from, sound .far-sound .status-to, sound .seen, d .young, d .recent)) (omega (arith, d .begun, top-window sound))
+
+      by-discard : (old : Bool) → far.discards (r .link .far) (far.rx-count (r .link .far) (d .part .sn)) (d .part) ≡ old
+          → Link-sound acc got ran
+            (state
+            (cond old (link.answering (link.with-far (r .link) (far.discarded (d .part) (r .link .far))) (link.arrived link.discarded 0) buffer)
+            (cond (far.clashes (r .link .far .sdu (far.rx-count (r .link .far) (d .part .sn))) (d .part) || leb near.packet-limit (far.rx-count (r .link .far) (d .part .sn)))
+            (link.refusing (r .link) (at EndClash (link.so-place (d .part .segment))) buffer)
+            (link.takes-in s (far.rx-count (r .link .far) (d .part .sn)) (d .part) buffer (r .link)))
+            .link)
+            (r .forward) (r .back))
+      by-discard true e = discarded-in (d .part)
+      by-discard false e =
+          ⊎-elim (λ old. absurd (both-ways _ e old))
+          (λ new.
+            subst (λ (o : link.Outcome). Link-sound acc got ran (state (o .link) (r .forward) (r .back))) (sym (cond-false _ _ _ (new .1)))
+            (received-in s buffer (far.rx-count (r .link .far) (d .part .sn)) (d .part) (new .2) (omega (arith, new .0, d .begun)) (omega (arith, new .0, d .young, d .recent))))
+          arrives
+
+      by-fault : (fault : Option Fault) → Link-sound acc got ran (state (link.reads-far s (unless fault (Ok (amd (d .part)))) buffer (r .link) .link) (r .forward) (r .back))
+      by-fault (Some fault) = sound
+      by-fault None = by-discard (far.discards (r .link .far) (far.rx-count (r .link .far) (d .part .sn)) (d .part)) refl
+
+  -- collecting --------------------------------------------------------------------------------------------------------
+
+  pub collected-in : (s : pdcp.Stored) (rest : List pdcp.Stored) → r .link .pdcp .store ≡ s ∷ rest → s .count < r .link .pdcp .RX-DELIV
+      → Link-sound acc (got ++ s .packet ∷ []) ran (state (link.with-pdcp (r .link) (pdcp.collected (r .link .pdcp) rest)) (r .forward) (r .back))
+  collected-in s rest is due-now =
+      record
+      { near-sound = sound .near-sound
+      ; far-sound = sound .far-sound
+      ; pdcp-sound = collected-sound acc got ran (r .link .pdcp) s rest (sound .pdcp-sound) is due-now
+      ; acknowledged = sound .acknowledged
+      ; complete = λ x e. collected-keeps acc got (got ++ s .packet ∷ []) ran (r .link .pdcp) s rest is due-now x (sound .complete x e)
+      ; seen = sound .seen
+      ; next = sound .next
+      ; forward = sound .forward
+      ; most = sound .most
+      ; most-to = sound .most-to
+      ; acknowledged-to = sound .acknowledged-to
+      ; back = sound .back
       }
