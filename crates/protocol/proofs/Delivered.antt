@@ -11,6 +11,7 @@ use Rattle.protocol.proofs.Between.{Data, Told, Link-sound, link-new, next-beh
 use Rattle.protocol.proofs.Calls.{state, unchanged, fewer, gave, sent, reported, ticked-near, ticked-far, read-near, read-far, collected-in as took-out}
 use Rattle.protocol.proofs.Invariants.{Store-sound, Pdcp-sound}
 use Rattle.protocol.proofs.Reports.{report-pdu}
+use Rattle.protocol.proofs.Strikes.{within-all}
 use Rattle.protocol.specs.Airs.{Waiting, Within, Waits, Lets-out, takes, Takes, laid, max-pdu}
 use Rattle.protocol.specs.Bytes.{Bytes, put}
 use Rattle.protocol.specs.Links as link
@@ -23,6 +24,7 @@ use Rattle.protocol.specs.Runs.{State, Event, outcome, next, Puts, Still, Airs
 use Rattle.protocol.specs.Refusals.{at}
 use Rattle.protocol.specs.Sending as near
 use Rattle.protocol.specs.Settings.{Settings, between}
+use Rattle.protocol.specs.Timers.{runs-out}
 use Rattle.protocol.specs.declared.faults.End.{End}
 use Rattle.protocol.specs.declared.faults.End.the-variants.{Near, Far}
 use Rattle.protocol.specs.declared.faults.Fault.{Fault}
@@ -226,3 +228,160 @@ module _ (acc got : List Bytes) (ran : Bool) (r : State) (sound : Link-sound acc
       by-store (first ∷ rest) is =
           subst (λ ss. Keeps acc got ran r (link.collect buffer) (link.collects-from (pdcp.due-of (r .link .pdcp .RX-DELIV) ss) ss buffer (r .link)) (r .forward) (r .back)) (sym is)
           (by-due first rest is (ltb (first .count) (r .link .pdcp .RX-DELIV)) refl)
+
+  -- an arrival, once its link is known to be sound
+  arrival-keeps : (end : End) (draw : ℕ) (buffer : Bytes) (o : link.Outcome) (forward back : List Waiting) → Mute o
+      → Link-sound acc got ran (state (o .link) forward back) → Keeps acc got ran r (link.arrive end draw buffer) o forward back
+  arrival-keeps end draw buffer o forward back mute kept =
+      subst (λ xs. Link-sound (acc ++ []) (got ++ xs) (ran || false) (state (o .link) forward back)) (sym (mute .silent (o .buffer)))
+      (nothing-more acc got ran (state (o .link) forward back) kept)
+
+  arrive-near-keeps : (s : Settings) (draw : ℕ) (buffer : Bytes) (out : Option Bytes) (back : List Waiting) → Takes draw buffer out (r .back) back
+      → Keeps acc got ran r (link.arrive Near draw buffer) (link.arrives s Near out buffer (r .link)) (r .forward) back
+  arrive-near-keeps s draw buffer out back took =
+      arrival-keeps Near draw buffer (link.arrives s Near out buffer (r .link)) (r .forward) back (mute-arrives s Near out buffer (r .link))
+      (by-take (takes draw buffer) out took)
+    where
+      left : (b : List Waiting) → Within b (r .back) → Link-sound acc got ran (state (r .link) (r .forward) b)
+      left b within = fewer acc got ran r sound (r .forward) b (within-all (r .forward)) within
+
+      by-out : (o : Option Bytes) → Lets-out o (r .back) back → (short : Bool)
+          → Link-sound acc got ran (state (cond short (link.refusing (r .link) (at ShortBuffer 0) buffer) (link.lets-in s Near o buffer (r .link)) .link) (r .forward) back)
+      by-out None within short = go short
+        where
+          go : (b : Bool) → Link-sound acc got ran (state (cond b (link.refusing (r .link) (at ShortBuffer 0) buffer) (link.lets-in s Near None buffer (r .link)) .link) (r .forward) back)
+          go true = left back within
+          go false = left back within
+      by-out (Some pdu) lets short = go short
+        where
+          told : Told (r .link .far) (sound .most) (record { pdu = pdu; age = lets .0 .0 })
+          told = all-at (Told (r .link .far) (sound .most)) (record { pdu = pdu; age = lets .0 .0 }) (r .back) (lets .0 .1) (sound .back)
+
+          go : (b : Bool) → Link-sound acc got ran (state (cond b (link.refusing (r .link) (at ShortBuffer 0) buffer) (link.lets-in s Near (Some pdu) buffer (r .link)) .link) (r .forward) back)
+          go true = left back (lets .1)
+          go false =
+              fewer acc got ran (state (link.reads s Near pdu (laid (Some pdu) buffer) (r .link) .link) (r .forward) (r .back))
+              (read-near acc got ran r sound s (laid (Some pdu) buffer) (record { pdu = pdu; age = lets .0 .0 }) told) (r .forward) back (within-all (r .forward)) (lets .1)
+
+      by-take : (t : Bool) (o : Option Bytes) → When t (Lets-out o (r .back) back) ((o ≡ None) × (back ≡ r .back))
+          → Link-sound acc got ran (state (link.arrives s Near o buffer (r .link) .link) (r .forward) back)
+      by-take true o lets = by-out o lets (ltb (length buffer) max-pdu)
+      by-take false o still =
+          subst (λ x. Link-sound acc got ran (state (link.arrives s Near x buffer (r .link) .link) (r .forward) back)) (sym (still .0))
+          (by-out None (subst (λ b. Within b (r .back)) (sym (still .1)) (within-all (r .back))) (ltb (length buffer) max-pdu))
+
+  -- the far end takes nothing while a packet is due
+  arrive-far-keeps : (s : Settings) (draw : ℕ) (buffer : Bytes) (out : Option Bytes) (forward : List Waiting)
+      → When (link.something-due (r .link)) ((out ≡ None) × (forward ≡ r .forward)) (Takes draw buffer out (r .forward) forward)
+      → Keeps acc got ran r (link.arrive Far draw buffer) (link.arrives s Far out buffer (r .link)) forward (r .back)
+  arrive-far-keeps s draw buffer out forward kept =
+      arrival-keeps Far draw buffer (link.arrives s Far out buffer (r .link)) forward (r .back) (mute-arrives s Far out buffer (r .link))
+      (by-due (link.something-due (r .link)) out kept)
+    where
+      left : (f : List Waiting) → Within f (r .forward) → Link-sound acc got ran (state (r .link) f (r .back))
+      left f within = fewer acc got ran r sound f (r .back) within (within-all (r .back))
+
+      by-out : (o : Option Bytes) → Lets-out o (r .forward) forward → (short : Bool)
+          → Link-sound acc got ran (state (cond short (link.refusing (r .link) (at ShortBuffer 0) buffer) (link.lets-in s Far o buffer (r .link)) .link) forward (r .back))
+      by-out None within short = go short
+        where
+          go : (b : Bool) → Link-sound acc got ran (state (cond b (link.refusing (r .link) (at ShortBuffer 0) buffer) (link.lets-in s Far None buffer (r .link)) .link) forward (r .back))
+          go true = left forward within
+          go false = left forward within
+      by-out (Some pdu) lets short = go short
+        where
+          data-in : Data acc (near.top (r .link .near)) (record { pdu = pdu; age = lets .0 .0 })
+          data-in = all-at (Data acc (near.top (r .link .near))) (record { pdu = pdu; age = lets .0 .0 }) (r .forward) (lets .0 .1) (sound .forward)
+
+          go : (b : Bool) → Link-sound acc got ran (state (cond b (link.refusing (r .link) (at ShortBuffer 0) buffer) (link.lets-in s Far (Some pdu) buffer (r .link)) .link) forward (r .back))
+          go true = left forward (lets .1)
+          go false =
+              fewer acc got ran (state (link.reads s Far pdu (laid (Some pdu) buffer) (r .link) .link) (r .forward) (r .back))
+              (read-far acc got ran r sound s (laid (Some pdu) buffer) (record { pdu = pdu; age = lets .0 .0 }) data-in) forward (r .back) (lets .1) (within-all (r .back))
+
+      by-take : (t : Bool) (o : Option Bytes) → When t (Lets-out o (r .forward) forward) ((o ≡ None) × (forward ≡ r .forward))
+          → Link-sound acc got ran (state (cond (ltb (length buffer) max-pdu) (link.refusing (r .link) (at ShortBuffer 0) buffer) (link.lets-in s Far o buffer (r .link)) .link) forward (r .back))
+      by-take true o lets = by-out o lets (ltb (length buffer) max-pdu)
+      by-take false o still =
+          subst (λ x. Link-sound acc got ran (state (cond (ltb (length buffer) max-pdu) (link.refusing (r .link) (at ShortBuffer 0) buffer) (link.lets-in s Far x buffer (r .link)) .link) forward (r .back))) (sym (still .0))
+          (by-out None (subst (λ f. Within f (r .forward)) (sym (still .1)) (within-all (r .forward))) (ltb (length buffer) max-pdu))
+
+      by-due : (due : Bool) (o : Option Bytes) → When due ((o ≡ None) × (forward ≡ r .forward)) (Takes draw buffer o (r .forward) forward)
+          → Link-sound acc got ran
+            (state
+            (cond (ltb (length buffer) max-pdu) (link.refusing (r .link) (at ShortBuffer 0) buffer)
+            (cond due (link.refusing (r .link) (at PacketDue 0) buffer) (link.lets-in s Far o buffer (r .link)))
+            .link)
+            forward (r .back))
+      by-due true o still = go (ltb (length buffer) max-pdu)
+        where
+          same : Link-sound acc got ran (state (r .link) forward (r .back))
+          same = unchanged acc got ran r sound forward (r .back) (still .1) refl
+
+          go : (b : Bool)
+              → Link-sound acc got ran (state (cond b (link.refusing (r .link) (at ShortBuffer 0) buffer) (link.refusing (r .link) (at PacketDue 0) buffer) .link) forward (r .back))
+          go true = same
+          go false = same
+      by-due false o took = by-take (takes draw buffer) o took
+
+-- every lawful event ----------------------------------------------------------------------------------------------------
+
+-- the airs as the event left them
+moved : (acc got : List Bytes) (ran : Bool) (l : link.Link) (forward back forward′ back′ : List Waiting) → forward′ ≡ forward → back′ ≡ back
+    → Link-sound acc got ran (state l forward back) → Link-sound acc got ran (state l forward′ back′)
+moved acc got ran l forward back forward′ back′ f b sound =
+    subst (λ xs. Link-sound acc got ran (state l xs back′)) (sym f) (subst (λ ys. Link-sound acc got ran (state l forward ys)) (sym b) sound)
+
+event-keeps : (acc got : List Bytes) (ran : Bool) (s : Settings) (r : State) (e : Event) (call : link.Call) → e .call ≡ call → Link-sound acc got ran r
+    → Airs-keep s r e call → Keeps acc got ran r call (link.does s call (e .out) (r .link)) (e .forward) (e .back)
+event-keeps acc got ran s r e (link.give p) is sound keep =
+    moved _ _ _ (link.gives p (r .link) .link) (r .forward) (r .back) (e .forward) (e .back) (keep .1) (keep .2) (give-keeps acc got ran r sound p)
+event-keeps acc got ran s r e (link.spend Near size buffer) is sound keep =
+    let puts = subst (λ c. Puts (link.does s c (e .out) (r .link) .puts) (r .forward) (e .forward)) is (keep .1) in
+    moved _ _ _ (link.spends s Near size buffer (r .link) .link) (e .forward) (r .back) (e .forward) (e .back) refl (keep .2)
+    (spend-near-keeps acc got ran r sound s size buffer (e .forward) puts)
+event-keeps acc got ran s r e (link.spend Far size buffer) is sound keep =
+    let puts = subst (λ c. Puts (link.does s c (e .out) (r .link) .puts) (r .back) (e .back)) is (keep .2) in
+    moved _ _ _ (link.spends s Far size buffer (r .link) .link) (r .forward) (e .back) (e .forward) (e .back) (keep .1) refl
+    (spend-far-keeps acc got ran r sound s size buffer (e .back) puts)
+event-keeps acc got ran s r e (link.arrive Near draw buffer) is sound keep =
+    moved _ _ _ (link.arrives s Near (e .out) buffer (r .link) .link) (r .forward) (e .back) (e .forward) (e .back) (keep .0) refl
+    (arrive-near-keeps acc got ran r sound s draw buffer (e .out) (e .back) (keep .1))
+event-keeps acc got ran s r e (link.arrive Far draw buffer) is sound keep =
+    let parts = halves (link.something-due (r .link)) keep in
+    moved _ _ _ (link.arrives s Far (e .out) buffer (r .link) .link) (e .forward) (r .back) (e .forward) (e .back) refl (parts .1)
+    (arrive-far-keeps acc got ran r sound s draw buffer (e .out) (e .forward) (parts .0))
+  where
+    halves : (due : Bool) → When due (Still r e) (Takes draw buffer (e .out) (r .forward) (e .forward) × (e .back ≡ r .back))
+        → When due ((e .out ≡ None) × (e .forward ≡ r .forward)) (Takes draw buffer (e .out) (r .forward) (e .forward)) × (e .back ≡ r .back)
+    halves true still = ((still .0, still .1), still .2)
+    halves false took = (took .0, took .1)
+event-keeps acc got ran s r e (link.tick Near) is sound keep =
+    moved _ _ _ (link.ticks s Near (r .link)) (r .forward) (r .back) (e .forward) (e .back) (keep .1) (keep .2)
+    (nothing-more acc got ran (state (link.ticks s Near (r .link)) (r .forward) (r .back)) (ticked-near acc got ran r sound s))
+event-keeps acc got ran s r e (link.tick Far) is sound keep =
+    moved _ _ _ (link.ticks s Far (r .link)) (r .forward) (r .back) (e .forward) (e .back) (keep .1) (keep .2)
+    (subst (λ a. Link-sound a (got ++ []) (ran || runs-out (r .link .pdcp .t-Reordering)) (state (link.ticks s Far (r .link)) (r .forward) (r .back))) (sym (append-nil acc))
+    (subst (λ g. Link-sound acc g (ran || runs-out (r .link .pdcp .t-Reordering)) (state (link.ticks s Far (r .link)) (r .forward) (r .back))) (sym (append-nil got))
+    (ticked-far acc got ran r sound s)))
+event-keeps acc got ran s r e (link.collect buffer) is sound keep =
+    moved _ _ _ (link.collects buffer (r .link) .link) (r .forward) (r .back) (e .forward) (e .back) (keep .1) (keep .2) (collect-keeps acc got ran r sound buffer)
+event-keeps acc got ran s r e (link.read end bytes) is sound keep = absurd keep
+
+-- every lawful series ---------------------------------------------------------------------------------------------------
+
+or-assoc : (a b c : Bool) → ((a || b) || c) ≡ (a || (b || c))
+or-assoc true b c = refl
+or-assoc false b c = refl
+
+series-keeps : (s : Settings) (es : List Event) (acc got : List Bytes) (ran : Bool) (r : State) → Link-sound acc got ran r → Lawful s r es
+    → Link-sound (acc ++ accepted-in s r es) (got ++ collected-in s r es) (ran || ran-out s r es) (end-of s r es)
+series-keeps s [] acc got ran r sound lawful = nothing-more acc got ran r sound
+series-keeps s (e ∷ es) acc got ran r sound lawful =
+    let a = accepted-by (e .call) (outcome s r e .answer) in
+    let g = collected-by (outcome s r e .answer) (outcome s r e .buffer) in
+    let b = gives-up (r .link) (e .call) in
+    let rest = series-keeps s es (acc ++ a) (got ++ g) (ran || b) (next s r e) (event-keeps acc got ran s r e (e .call) refl sound (lawful .0)) (lawful .1) in
+    subst (λ x. Link-sound x (got ++ (g ++ collected-in s (next s r e) es)) (ran || (b || ran-out s (next s r e) es)) (end-of s (next s r e) es)) (append-assoc acc a (accepted-in s (next s r e) es))
+    (subst (λ y. Link-sound ((acc ++ a) ++ accepted-in s (next s r e) es) y (ran || (b || ran-out s (next s r e) es)) (end-of s (next s r e) es)) (append-assoc got g (collected-in s (next s r e) es))
+    (subst (λ z. Link-sound ((acc ++ a) ++ accepted-in s (next s r e) es) ((got ++ g) ++ collected-in s (next s r e) es) z (end-of s (next s r e) es)) (or-assoc ran b (ran-out s (next s r e) es)) rest))
