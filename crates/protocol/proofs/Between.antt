@@ -80,19 +80,19 @@ pub record Link-sound (acc got : List Bytes) (ran : Bool) (r : State) : Type 0 w
 
 pub link-new : Link-sound [] [] false new-state
 link-new =
-    record
-    { near-sound = near-new
-    ; far-sound = far-new
-    ; pdcp-sound = new-sound
-    ; acknowledged = λ x e. absurd (both-ways false refl e)
-    ; complete = λ x e. absurd (both-ways (far.complete far.nothing-held) refl e)
-    ; seen = omega arith
-    ; next = omega arith
-    ; forward = tt
-    ; most = 0
-    ; most-to = omega arith
-    ; acknowledged-to = λ x e. absurd (both-ways false refl e)
-    ; back = tt
+    record {
+      near-sound = near-new;
+      far-sound = far-new;
+      pdcp-sound = new-sound;
+      acknowledged = λ x e. absurd (both-ways false refl e);
+      complete = λ x e. absurd (both-ways (far.complete far.nothing-held) refl e);
+      seen = omega arith;
+      next = omega arith;
+      forward = tt;
+      most = 0;
+      most-to = omega arith;
+      acknowledged-to = λ x e. absurd (both-ways false refl e);
+      back = tt;
     }
 
 -- where the window of the far end stands ------------------------------------------------------------------------------

@@ -57,19 +57,19 @@ module _ (acc got : List Bytes) (ran : Bool) (r : State) (sound : Link-sound acc
   -- PDUs that are no longer there are not missed
   pub fewer : (forward back : List Waiting) → Within forward (r .forward) → Within back (r .back) → Link-sound acc got ran (state (r .link) forward back)
   fewer forward back f b =
-      record
-      { near-sound = sound .near-sound
-      ; far-sound = sound .far-sound
-      ; pdcp-sound = sound .pdcp-sound
-      ; acknowledged = sound .acknowledged
-      ; complete = sound .complete
-      ; seen = sound .seen
-      ; next = sound .next
-      ; forward = all-within (Data acc (near.top (r .link .near))) f (sound .forward)
-      ; most = sound .most
-      ; most-to = sound .most-to
-      ; acknowledged-to = sound .acknowledged-to
-      ; back = all-within (Told (r .link .far) (sound .most)) b (sound .back)
+      record {
+        near-sound = sound .near-sound;
+        far-sound = sound .far-sound;
+        pdcp-sound = sound .pdcp-sound;
+        acknowledged = sound .acknowledged;
+        complete = sound .complete;
+        seen = sound .seen;
+        next = sound .next;
+        forward = all-within (Data acc (near.top (r .link .near))) f (sound .forward);
+        most = sound .most;
+        most-to = sound .most-to;
+        acknowledged-to = sound .acknowledged-to;
+        back = all-within (Told (r .link .far) (sound .most)) b (sound .back);
       }
 
   -- giving a packet -------------------------------------------------------------------------------------------------
@@ -77,19 +77,19 @@ module _ (acc got : List Bytes) (ran : Bool) (r : State) (sound : Link-sound acc
   pub gave : (p : Bytes) → 1 ≤ length p → length p ≤ 500 → r .link .near .TX-Next < r .link .near .TX-Next-Ack + 16 → length acc < 1000000
       → Link-sound (acc ++ p ∷ []) got ran (state (link.with-near (r .link) (near.given p (r .link .near))) (r .forward) (r .back))
   gave p some short room few =
-      record
-      { near-sound = near-given acc n p (sound .near-sound) some short room few
-      ; far-sound = far-given acc p (r .link .far) (sound .far-sound)
-      ; pdcp-sound = given-sound acc got ran p (r .link .pdcp) (sound .pdcp-sound)
-      ; acknowledged = λ x e. sound .acknowledged x (sym (given-acknowledged acc n p (sound .near-sound) x) ∙ e)
-      ; complete = sound .complete
-      ; seen = omega (arith, sound .seen, top-same)
-      ; next = sound .next
-      ; forward = all-map (Data acc (near.top n)) (Data (acc ++ p ∷ []) (near.top (near.given p n))) (r .forward) kept-data (sound .forward)
-      ; most = sound .most
-      ; most-to = sound .most-to
-      ; acknowledged-to = λ x e. sound .acknowledged-to x (sym (given-acknowledged acc n p (sound .near-sound) x) ∙ e)
-      ; back = sound .back
+      record {
+        near-sound = near-given acc n p (sound .near-sound) some short room few;
+        far-sound = far-given acc p (r .link .far) (sound .far-sound);
+        pdcp-sound = given-sound acc got ran p (r .link .pdcp) (sound .pdcp-sound);
+        acknowledged = λ x e. sound .acknowledged x (sym (given-acknowledged acc n p (sound .near-sound) x) ∙ e);
+        complete = sound .complete;
+        seen = omega (arith, sound .seen, top-same);
+        next = sound .next;
+        forward = all-map (Data acc (near.top n)) (Data (acc ++ p ∷ []) (near.top (near.given p n))) (r .forward) kept-data (sound .forward);
+        most = sound .most;
+        most-to = sound .most-to;
+        acknowledged-to = λ x e. sound .acknowledged-to x (sym (given-acknowledged acc n p (sound .near-sound) x) ∙ e);
+        back = sound .back;
       }
     where
       n : near.Near
@@ -100,16 +100,16 @@ module _ (acc got : List Bytes) (ran : Bool) (r : State) (sound : Link-sound acc
 
       kept-data : (w : Waiting) → Data acc (near.top (r .link .near)) w → Data (acc ++ p ∷ []) (near.top (near.given p (r .link .near))) w
       kept-data w d =
-          record
-          { count = d .count
-          ; part = d .part
-          ; pdu-is = d .pdu-is
-          ; true-part =
-              subst (λ bytes. Part-of bytes (d .count) (d .part))
-              (sym (sdu-given acc p (d .count) (omega (arith, d .begun, sound .near-sound .begun, sound .near-sound .next)))) (d .true-part)
-          ; begun = omega (arith, d .begun, top-same)
-          ; young = omega (arith, d .young, top-same)
-          ; recent = d .recent
+          record {
+            count = d .count;
+            part = d .part;
+            pdu-is = d .pdu-is;
+            true-part =
+                subst (λ bytes. Part-of bytes (d .count) (d .part))
+                (sym (sdu-given acc p (d .count) (omega (arith, d .begun, sound .near-sound .begun, sound .near-sound .next)))) (d .true-part);
+            begun = omega (arith, d .begun, top-same);
+            young = omega (arith, d .young, top-same);
+            recent = d .recent;
           }
 
   -- spending a grant at the near end --------------------------------------------------------------------------------------
@@ -118,19 +118,19 @@ module _ (acc got : List Bytes) (ran : Bool) (r : State) (sound : Link-sound acc
       → Puts (Some (encode (amd (near.amd-of-run s run (r .link .near))))) (r .forward) forward
       → Link-sound acc got ran (state (link.with-near (r .link) (near.spent s run (r .link .near))) forward (r .back))
   sent s g run big served forward puts =
-      record
-      { near-sound = after .sound
-      ; far-sound = sound .far-sound
-      ; pdcp-sound = sound .pdcp-sound
-      ; acknowledged = λ x e. sound .acknowledged x (sym (after .same-acknowledged x) ∙ e)
-      ; complete = sound .complete
-      ; seen = omega (arith, sound .seen, after .top-grows)
-      ; next = sound .next
-      ; forward = put-all (Data acc (near.top n)) (Data acc (near.top (near.spent s run n))) older (encode (amd (near.amd-of-run s run n))) (r .forward) forward (sound .forward) new puts
-      ; most = sound .most
-      ; most-to = sound .most-to
-      ; acknowledged-to = λ x e. sound .acknowledged-to x (sym (after .same-acknowledged x) ∙ e)
-      ; back = sound .back
+      record {
+        near-sound = after .sound;
+        far-sound = sound .far-sound;
+        pdcp-sound = sound .pdcp-sound;
+        acknowledged = λ x e. sound .acknowledged x (sym (after .same-acknowledged x) ∙ e);
+        complete = sound .complete;
+        seen = omega (arith, sound .seen, after .top-grows);
+        next = sound .next;
+        forward = put-all (Data acc (near.top n)) (Data acc (near.top (near.spent s run n))) older (encode (amd (near.amd-of-run s run n))) (r .forward) forward (sound .forward) new puts;
+        most = sound .most;
+        most-to = sound .most-to;
+        acknowledged-to = λ x e. sound .acknowledged-to x (sym (after .same-acknowledged x) ∙ e);
+        back = sound .back;
       }
     where
       n : near.Near
@@ -141,27 +141,27 @@ module _ (acc got : List Bytes) (ran : Bool) (r : State) (sound : Link-sound acc
 
       older : (w : Waiting) → suc (w .age) < 64 → Data acc (near.top (r .link .near)) w → Data acc (near.top (near.spent s run (r .link .near))) (record { pdu = w .pdu; age = suc (w .age) })
       older w recent d =
-          record
-          { count = d .count
-          ; part = d .part
-          ; pdu-is = d .pdu-is
-          ; true-part = d .true-part
-          ; begun = omega (arith, d .begun, near-spent s acc (r .link .near) g run (sound .near-sound) big served .top-grows)
-          ; young = omega (arith, d .young, near-spent s acc (r .link .near) g run (sound .near-sound) big served .top-by-one)
-          ; recent = recent
+          record {
+            count = d .count;
+            part = d .part;
+            pdu-is = d .pdu-is;
+            true-part = d .true-part;
+            begun = omega (arith, d .begun, near-spent s acc (r .link .near) g run (sound .near-sound) big served .top-grows);
+            young = omega (arith, d .young, near-spent s acc (r .link .near) g run (sound .near-sound) big served .top-by-one);
+            recent = recent;
           }
 
       new : Data acc (near.top (near.spent s run (r .link .near))) (record { pdu = encode (amd (near.amd-of-run s run (r .link .near))); age = 0 })
       new =
           let k = near-spent s acc (r .link .near) g run (sound .near-sound) big served in
-          record
-          { count = run .count
-          ; part = near.amd-of-run s run (r .link .near)
-          ; pdu-is = refl
-          ; true-part = k .part
-          ; begun = k .begun
-          ; young = omega (arith, k .sound .begun, k .sound .window, k .same-first, k .low)
-          ; recent = omega arith
+          record {
+            count = run .count;
+            part = near.amd-of-run s run (r .link .near);
+            pdu-is = refl;
+            true-part = k .part;
+            begun = k .begun;
+            young = omega (arith, k .sound .begun, k .sound .window, k .same-first, k .low);
+            recent = omega arith;
           }
 
   -- spending a grant at the far end -----------------------------------------------------------------------------------------
@@ -170,21 +170,21 @@ module _ (acc got : List Bytes) (ran : Bool) (r : State) (sound : Link-sound acc
       → Puts (Some (encode (report-pdu (far.report (r .link .far) g)))) (r .back) back
       → Link-sound acc got ran (state (link.with-far (r .link) (far.reported s (r .link .far))) (r .forward) back)
   reported s g back puts =
-      record
-      { near-sound = sound .near-sound
-      ; far-sound = far-reported s acc (r .link .far) (sound .far-sound)
-      ; pdcp-sound = sound .pdcp-sound
-      ; acknowledged = sound .acknowledged
-      ; complete = sound .complete
-      ; seen = sound .seen
-      ; next = sound .next
-      ; forward = sound .forward
-      ; most = max (sound .most) (far.report (r .link .far) g .ack)
-      ; most-to = omega (arith, sound .most-to, right .ack-to, sound .far-sound .status-to)
-      ; acknowledged-to = λ x e. omega (arith, sound .acknowledged-to x e)
-      ; back =
-          put-all (Told (r .link .far) (sound .most)) (Told (far.reported s (r .link .far)) (max (sound .most) (far.report (r .link .far) g .ack))) older
-          (encode (report-pdu (far.report (r .link .far) g))) (r .back) back (sound .back) new puts
+      record {
+        near-sound = sound .near-sound;
+        far-sound = far-reported s acc (r .link .far) (sound .far-sound);
+        pdcp-sound = sound .pdcp-sound;
+        acknowledged = sound .acknowledged;
+        complete = sound .complete;
+        seen = sound .seen;
+        next = sound .next;
+        forward = sound .forward;
+        most = max (sound .most) (far.report (r .link .far) g .ack);
+        most-to = omega (arith, sound .most-to, right .ack-to, sound .far-sound .status-to);
+        acknowledged-to = λ x e. omega (arith, sound .acknowledged-to x e);
+        back =
+            put-all (Told (r .link .far) (sound .most)) (Told (far.reported s (r .link .far)) (max (sound .most) (far.report (r .link .far) g .ack))) older
+            (encode (report-pdu (far.report (r .link .far) g))) (r .back) back (sound .back) new puts;
       }
     where
       right : Reports (r .link .far) (r .link .far .RX-Next) (r .link .far .RX-Highest-Status) (g - 3) (far.report (r .link .far) g)
@@ -198,47 +198,47 @@ module _ (acc got : List Bytes) (ran : Bool) (r : State) (sound : Link-sound acc
       older : (w : Waiting) → suc (w .age) < 64 → Told (r .link .far) (sound .most) w
           → Told (far.reported s (r .link .far)) (max (sound .most) (far.report (r .link .far) g .ack)) (record { pdu = w .pdu; age = suc (w .age) })
       older w recent t =
-          record
-          { ack = t .ack
-          ; entries = t .entries
-          ; pdu-is = t .pdu-is
-          ; fit = t .fit
-          ; ack-to = omega (arith, t .ack-to)
-          ; young = omega (arith, t .young, close)
-          ; recent = recent
-          ; true-report = t .true-report
+          record {
+            ack = t .ack;
+            entries = t .entries;
+            pdu-is = t .pdu-is;
+            fit = t .fit;
+            ack-to = omega (arith, t .ack-to);
+            young = omega (arith, t .young, close);
+            recent = recent;
+            true-report = t .true-report;
           }
 
       new : Told (far.reported s (r .link .far)) (max (sound .most) (far.report (r .link .far) g .ack)) (record { pdu = encode (report-pdu (far.report (r .link .far) g)); age = 0 })
       new =
-          record
-          { ack = far.report (r .link .far) g .ack
-          ; entries = far.report (r .link .far) g .entries
-          ; pdu-is = refl
-          ; fit = report-fits acc (r .link .far) g (sound .near-sound .packets) (sound .far-sound) .1
-          ; ack-to = omega arith
-          ; young = omega (arith, right .ack-from, sound .most-to, sound .far-sound .window)
-          ; recent = omega arith
-          ; true-report = λ x l unnamed. unnamed-complete acc (r .link .far) g x (sound .near-sound .packets) (sound .far-sound) l unnamed
+          record {
+            ack = far.report (r .link .far) g .ack;
+            entries = far.report (r .link .far) g .entries;
+            pdu-is = refl;
+            fit = report-fits acc (r .link .far) g (sound .near-sound .packets) (sound .far-sound) .1;
+            ack-to = omega arith;
+            young = omega (arith, right .ack-from, sound .most-to, sound .far-sound .window);
+            recent = omega arith;
+            true-report = λ x l unnamed. unnamed-complete acc (r .link .far) g x (sound .near-sound .packets) (sound .far-sound) l unnamed;
           }
 
   -- Ticks -----------------------------------------------------------------------------------------------------------
 
   pub ticked-near : (s : Settings) → Link-sound acc got ran (state (link.ticks s Near (r .link)) (r .forward) (r .back))
   ticked-near s =
-      record
-      { near-sound = k .sound
-      ; far-sound = sound .far-sound
-      ; pdcp-sound = sound .pdcp-sound
-      ; acknowledged = λ x e. sound .acknowledged x (sym (k .same-acknowledged x) ∙ e)
-      ; complete = sound .complete
-      ; seen = omega (arith, sound .seen, k .same-top)
-      ; next = sound .next
-      ; forward = subst (λ top. All (Data acc top) (r .forward)) (sym (k .same-top)) (sound .forward)
-      ; most = sound .most
-      ; most-to = sound .most-to
-      ; acknowledged-to = λ x e. sound .acknowledged-to x (sym (k .same-acknowledged x) ∙ e)
-      ; back = sound .back
+      record {
+        near-sound = k .sound;
+        far-sound = sound .far-sound;
+        pdcp-sound = sound .pdcp-sound;
+        acknowledged = λ x e. sound .acknowledged x (sym (k .same-acknowledged x) ∙ e);
+        complete = sound .complete;
+        seen = omega (arith, sound .seen, k .same-top);
+        next = sound .next;
+        forward = subst (λ top. All (Data acc top) (r .forward)) (sym (k .same-top)) (sound .forward);
+        most = sound .most;
+        most-to = sound .most-to;
+        acknowledged-to = λ x e. sound .acknowledged-to x (sym (k .same-acknowledged x) ∙ e);
+        back = sound .back;
       }
     where
       k : Ticked-kept acc (r .link .near) (near.tick-near s (r .link .near))
@@ -247,35 +247,35 @@ module _ (acc got : List Bytes) (ran : Bool) (r : State) (sound : Link-sound acc
   -- what is told of SDUs that are as they were
   told-same : (most : ℕ) (f g : far.Far) → ((x : ℕ) → far.complete (f .sdu x) ≡ true → far.complete (g .sdu x) ≡ true) → (w : Waiting) → Told f most w → Told g most w
   told-same most f g stays w t =
-      record
-      { ack = t .ack
-      ; entries = t .entries
-      ; pdu-is = t .pdu-is
-      ; fit = t .fit
-      ; ack-to = t .ack-to
-      ; young = t .young
-      ; recent = t .recent
-      ; true-report = λ x l unnamed. stays x (t .true-report x l unnamed)
+      record {
+        ack = t .ack;
+        entries = t .entries;
+        pdu-is = t .pdu-is;
+        fit = t .fit;
+        ack-to = t .ack-to;
+        young = t .young;
+        recent = t .recent;
+        true-report = λ x l unnamed. stays x (t .true-report x l unnamed);
       }
 
   pub ticked-far : (s : Settings)
       → Link-sound acc got (ran || runs-out (r .link .pdcp .t-Reordering)) (state (link.ticks s Far (r .link)) (r .forward) (r .back))
   ticked-far s =
-      record
-      { near-sound = sound .near-sound
-      ; far-sound = k .0
-      ; pdcp-sound = ticked-sound acc got ran s (r .link .pdcp) (sound .pdcp-sound)
-      ; acknowledged = λ x e. ap far.complete (k .1 .sdus-same x) ∙ sound .acknowledged x e
-      ; complete = λ x e. holds .0 x (sound .complete x (ap far.complete (sym (k .1 .sdus-same x)) ∙ e))
-      ; seen = omega (arith, sound .seen, k .1 .highest-same)
-      ; next = omega (arith, sound .next, k .1 .highest-same, holds .1)
-      ; forward = sound .forward
-      ; most = sound .most
-      ; most-to = omega (arith, sound .most-to, k .1 .highest-same)
-      ; acknowledged-to = sound .acknowledged-to
-      ; back =
-          all-map (Told (r .link .far) (sound .most)) (Told (far.tick-far s (r .link .far)) (sound .most)) (r .back)
-          (told-same (sound .most) (r .link .far) (far.tick-far s (r .link .far)) (λ x e. ap far.complete (far-ticked s acc (r .link .far) (sound .far-sound) .1 .sdus-same x) ∙ e)) (sound .back)
+      record {
+        near-sound = sound .near-sound;
+        far-sound = k .0;
+        pdcp-sound = ticked-sound acc got ran s (r .link .pdcp) (sound .pdcp-sound);
+        acknowledged = λ x e. ap far.complete (k .1 .sdus-same x) ∙ sound .acknowledged x e;
+        complete = λ x e. holds .0 x (sound .complete x (ap far.complete (sym (k .1 .sdus-same x)) ∙ e));
+        seen = omega (arith, sound .seen, k .1 .highest-same);
+        next = omega (arith, sound .next, k .1 .highest-same, holds .1);
+        forward = sound .forward;
+        most = sound .most;
+        most-to = omega (arith, sound .most-to, k .1 .highest-same);
+        acknowledged-to = sound .acknowledged-to;
+        back =
+            all-map (Told (r .link .far) (sound .most)) (Told (far.tick-far s (r .link .far)) (sound .most)) (r .back)
+            (told-same (sound .most) (r .link .far) (far.tick-far s (r .link .far)) (λ x e. ap far.complete (far-ticked s acc (r .link .far) (sound .far-sound) .1 .sdus-same x) ∙ e)) (sound .back);
       }
     where
       k : Far-sound acc (far.tick-far s (r .link .far)) × Same-sdus (r .link .far) (far.tick-far s (r .link .far))
@@ -290,22 +290,22 @@ module _ (acc got : List Bytes) (ran : Bool) (r : State) (sound : Link-sound acc
   pub acknowledged-by : (s : Settings) (w : Waiting) (t : Told (r .link .far) (sound .most) w)
       → ltb (r .link .near .TX-Next) (near.tx-count (r .link .near) (t .ack % 4096)) ≡ false
       → Link-sound acc got ran
-        (state (link.with-near (r .link) (near.reported s (near.tx-count (r .link .near) (t .ack % 4096)) (t .entries) (r .link .near))) (r .forward) (r .back))
+      (state (link.with-near (r .link) (near.reported s (near.tx-count (r .link .near) (t .ack % 4096)) (t .entries) (r .link .near))) (r .forward) (r .back))
   acknowledged-by s w t fresh =
       subst (λ a. Link-sound acc got ran (state (link.with-near (r .link) (near.reported s a (t .entries) (r .link .near))) (r .forward) (r .back))) (sym as-written)
-      (record
-      { near-sound = k .sound
-      ; far-sound = sound .far-sound
-      ; pdcp-sound = sound .pdcp-sound
-      ; acknowledged = λ x e. ⊎-elim (sound .acknowledged x) (λ new. newly x new e) (k .was-reported x e)
-      ; complete = sound .complete
-      ; seen = omega (arith, sound .seen, k .same-top)
-      ; next = sound .next
-      ; forward = subst (λ top. All (Data acc top) (r .forward)) (sym (k .same-top)) (sound .forward)
-      ; most = sound .most
-      ; most-to = sound .most-to
-      ; acknowledged-to = λ x e. ⊎-elim (sound .acknowledged-to x) (λ new. omega (arith, new .0, t .ack-to)) (k .was-reported x e)
-      ; back = sound .back
+      (record {
+        near-sound = k .sound;
+        far-sound = sound .far-sound;
+        pdcp-sound = sound .pdcp-sound;
+        acknowledged = λ x e. ⊎-elim (sound .acknowledged x) (λ new. newly x new e) (k .was-reported x e);
+        complete = sound .complete;
+        seen = omega (arith, sound .seen, k .same-top);
+        next = sound .next;
+        forward = subst (λ top. All (Data acc top) (r .forward)) (sym (k .same-top)) (sound .forward);
+        most = sound .most;
+        most-to = sound .most-to;
+        acknowledged-to = λ x e. ⊎-elim (sound .acknowledged-to x) (λ new. omega (arith, new .0, t .ack-to)) (k .was-reported x e);
+        back = sound .back;
       })
     where
       n : near.Near
@@ -316,8 +316,8 @@ module _ (acc got : List Bytes) (ran : Bool) (r : State) (sound : Link-sound acc
       not-late =
           ⊎-elim
           (λ late.
-            let read = read-behind (r .link .near .TX-Next-Ack) (t .ack) late (omega (arith, ack-most sound, t .young, t .recent)) in
-            absurd (omega (arith, ltb-false _ _ fresh, read, ack-most sound, t .young, t .recent, sound .near-sound .window)))
+          let read = read-behind (r .link .near .TX-Next-Ack) (t .ack) late (omega (arith, ack-most sound, t .young, t .recent)) in
+          absurd (omega (arith, ltb-false _ _ fresh, read, ack-most sound, t .young, t .recent, sound .near-sound .window)))
           (λ h. h) (cases-lt (t .ack) (r .link .near .TX-Next-Ack))
 
       inside : t .ack ≤ r .link .near .TX-Next
@@ -335,9 +335,9 @@ module _ (acc got : List Bytes) (ran : Bool) (r : State) (sound : Link-sound acc
       newly x new e =
           ⊎-elim (λ below. sound .acknowledged x (ap (λ sdu. sdu .acknowledged) (sound .near-sound .below x below)))
           (λ from.
-            let begun = k .sound .acknowledged x e in
-            let count = read-ahead (r .link .near .TX-Next-Ack) x from (omega (arith, begun, k .same-top, sound .near-sound .begun, sound .near-sound .window)) in
-            t .true-report x (new .0) (λ names. both-ways _ (new .1) (named-in (r .link .near) (t .entries) x count names)))
+          let begun = k .sound .acknowledged x e in
+          let count = read-ahead (r .link .near .TX-Next-Ack) x from (omega (arith, begun, k .same-top, sound .near-sound .begun, sound .near-sound .window)) in
+          t .true-report x (new .0) (λ names. both-ways _ (new .1) (named-in (r .link .near) (t .entries) x count names)))
           (cases-lt x (r .link .near .TX-Next-Ack))
 
   pub read-near : (s : Settings) (buffer : Bytes) (w : Waiting) → Told (r .link .far) (sound .most) w
@@ -351,11 +351,11 @@ module _ (acc got : List Bytes) (ran : Bool) (r : State) (sound : Link-sound acc
 
       by-stale : (old : Bool) → ltb (r .link .near .TX-Next) (near.tx-count (r .link .near) (t .ack % 4096)) ≡ old
           → Link-sound acc got ran
-            (state
-            (cond old (link.answering (r .link) (link.arrived link.stale-report (link.number-due (r .link))) buffer)
-            (link.answering (link.with-near (r .link) (near.reported s (near.tx-count (r .link .near) (t .ack % 4096)) (t .entries) (r .link .near))) (link.arrived link.taken (link.number-due (r .link))) buffer)
-            .link)
-            (r .forward) (r .back))
+          (state
+          (cond old (link.answering (r .link) (link.arrived link.stale-report (link.number-due (r .link))) buffer)
+          (link.answering (link.with-near (r .link) (near.reported s (near.tx-count (r .link .near) (t .ack % 4096)) (t .entries) (r .link .near))) (link.arrived link.taken (link.number-due (r .link))) buffer)
+          .link)
+          (r .forward) (r .back))
       by-stale true e = sound
       by-stale false e = acknowledged-by s w t e
 
@@ -371,19 +371,19 @@ module _ (acc got : List Bytes) (ran : Bool) (r : State) (sound : Link-sound acc
       → p .RX-NEXT ≤ max (r .link .pdcp .RX-NEXT) (x + 1) → (far.complete (far.received a (r .link .far .sdu x)) ≡ true → Held acc got ran p x)
       → Link-sound acc got ran (state (record { near = r .link .near; far = far.taken s x a (r .link .far); pdcp = p }) (r .forward) (r .back))
   taken-in s x a p k begun p-sound keeps next held =
-      record
-      { near-sound = sound .near-sound
-      ; far-sound = k .sound
-      ; pdcp-sound = p-sound
-      ; acknowledged = λ y e. k .completes y (sound .acknowledged y e)
-      ; complete = λ y e. ⊎-elim (λ old. keeps y (sound .complete y old)) (λ new. subst (Held acc got ran p) (sym (new .0)) (held (new .1))) (k .no-other y e)
-      ; seen = omega (arith, sound .seen, k .highest-is, begun)
-      ; next = omega (arith, next, sound .next, k .highest-is)
-      ; forward = sound .forward
-      ; most = sound .most
-      ; most-to = omega (arith, sound .most-to, k .highest-is)
-      ; acknowledged-to = sound .acknowledged-to
-      ; back = all-map (Told (r .link .far) (sound .most)) (Told (far.taken s x a (r .link .far)) (sound .most)) (r .back) (told-same (sound .most) (r .link .far) (far.taken s x a (r .link .far)) (k .completes)) (sound .back)
+      record {
+        near-sound = sound .near-sound;
+        far-sound = k .sound;
+        pdcp-sound = p-sound;
+        acknowledged = λ y e. k .completes y (sound .acknowledged y e);
+        complete = λ y e. ⊎-elim (λ old. keeps y (sound .complete y old)) (λ new. subst (Held acc got ran p) (sym (new .0)) (held (new .1))) (k .no-other y e);
+        seen = omega (arith, sound .seen, k .highest-is, begun);
+        next = omega (arith, next, sound .next, k .highest-is);
+        forward = sound .forward;
+        most = sound .most;
+        most-to = omega (arith, sound .most-to, k .highest-is);
+        acknowledged-to = sound .acknowledged-to;
+        back = all-map (Told (r .link .far) (sound .most)) (Told (far.taken s x a (r .link .far)) (sound .most)) (r .back) (told-same (sound .most) (r .link .far) (far.taken s x a (r .link .far)) (k .completes)) (sound .back);
       }
 
   received-in : (s : Settings) (buffer : Bytes) (x : ℕ) (a : Amd) → Taken acc x a (r .link .far) (far.taken s x a (r .link .far)) → x < near.top (r .link .near)
@@ -398,12 +398,12 @@ module _ (acc got : List Bytes) (ran : Bool) (r : State) (sound : Link-sound acc
 
       go : (whole : Bool) → far.complete (far.received a (r .link .far .sdu x)) ≡ whole
           → Link-sound acc got ran
-            (state
-            (cond whole
-            (link.hands-up (pdcp.handed-up s (far.sdu-bytes (far.received a (r .link .far .sdu x))) (r .link .pdcp)) buffer (link.with-far (r .link) (far.taken s x a (r .link .far))))
-            (link.answering (link.with-far (r .link) (far.taken s x a (r .link .far))) (link.arrived link.kept 0) buffer)
-            .link)
-            (r .forward) (r .back))
+          (state
+          (cond whole
+          (link.hands-up (pdcp.handed-up s (far.sdu-bytes (far.received a (r .link .far .sdu x))) (r .link .pdcp)) buffer (link.with-far (r .link) (far.taken s x a (r .link .far))))
+          (link.answering (link.with-far (r .link) (far.taken s x a (r .link .far))) (link.arrived link.kept 0) buffer)
+          .link)
+          (r .forward) (r .back))
       go true e =
           subst (λ a′. Link-sound acc got ran (state (link.hands-up a′ buffer (link.with-far (r .link) (far.taken s x a (r .link .far))) .link) (r .forward) (r .back)))
           (sym (ap (λ bytes. pdcp.handed-up s bytes (r .link .pdcp)) (k .completed e .1) ∙ handed .answer))
@@ -412,19 +412,19 @@ module _ (acc got : List Bytes) (ran : Bool) (r : State) (sound : Link-sound acc
 
   discarded-in : (a : Amd) → Link-sound acc got ran (state (link.with-far (r .link) (far.discarded a (r .link .far))) (r .forward) (r .back))
   discarded-in a =
-      record
-      { near-sound = sound .near-sound
-      ; far-sound = far-discarded acc (r .link .far) a (sound .far-sound)
-      ; pdcp-sound = sound .pdcp-sound
-      ; acknowledged = sound .acknowledged
-      ; complete = sound .complete
-      ; seen = sound .seen
-      ; next = sound .next
-      ; forward = sound .forward
-      ; most = sound .most
-      ; most-to = sound .most-to
-      ; acknowledged-to = sound .acknowledged-to
-      ; back = all-map (Told (r .link .far) (sound .most)) (Told (far.discarded a (r .link .far)) (sound .most)) (r .back) (told-same (sound .most) (r .link .far) (far.discarded a (r .link .far)) (λ x e. e)) (sound .back)
+      record {
+        near-sound = sound .near-sound;
+        far-sound = far-discarded acc (r .link .far) a (sound .far-sound);
+        pdcp-sound = sound .pdcp-sound;
+        acknowledged = sound .acknowledged;
+        complete = sound .complete;
+        seen = sound .seen;
+        next = sound .next;
+        forward = sound .forward;
+        most = sound .most;
+        most-to = sound .most-to;
+        acknowledged-to = sound .acknowledged-to;
+        back = all-map (Told (r .link .far) (sound .most)) (Told (far.discarded a (r .link .far)) (sound .most)) (r .back) (told-same (sound .most) (r .link .far) (far.discarded a (r .link .far)) (λ x e. e)) (sound .back);
       }
 
   pub read-far : (s : Settings) (buffer : Bytes) (w : Waiting) → Data acc (near.top (r .link .near)) w
@@ -448,34 +448,34 @@ module _ (acc got : List Bytes) (ran : Bool) (r : State) (sound : Link-sound acc
       read =
           ap (decode Far) (d .pdu-is)
           ∙ written-reads-back (amd (d .part))
-            (omega (arith, d .true-part .number), so-fits (d .part .segment) (omega (arith, d .true-part .inside, sdu-short acc (d .count) (sound .near-sound .packets) small)))
+          (omega (arith, d .true-part .number), so-fits (d .part .segment) (omega (arith, d .true-part .inside, sdu-short acc (d .count) (sound .near-sound .packets) small)))
 
       x : ℕ
       x = far.rx-count (r .link .far) (d .part .sn)
 
       arrives : (far.discards (r .link .far) (far.rx-count (r .link .far) (d .part .sn)) (d .part) ≡ true)
           ⊎ ((far.rx-count (r .link .far) (d .part .sn) ≡ d .count)
-            × ((far.clashes (r .link .far .sdu (far.rx-count (r .link .far) (d .part .sn))) (d .part) || leb near.packet-limit (far.rx-count (r .link .far) (d .part .sn))) ≡ false)
-            × Taken acc (far.rx-count (r .link .far) (d .part .sn)) (d .part) (r .link .far) (far.taken s (far.rx-count (r .link .far) (d .part .sn)) (d .part) (r .link .far)))
+          × ((far.clashes (r .link .far .sdu (far.rx-count (r .link .far) (d .part .sn))) (d .part) || leb near.packet-limit (far.rx-count (r .link .far) (d .part .sn))) ≡ false)
+          × Taken acc (far.rx-count (r .link .far) (d .part .sn)) (d .part) (r .link .far) (far.taken s (far.rx-count (r .link .far) (d .part .sn)) (d .part) (r .link .far)))
       arrives =
           far-arrives s acc (r .link .far) (d .count) (d .part) (sound .near-sound .packets) (sound .far-sound) small (d .true-part)
           (omega (arith, sound .far-sound .status-from, sound .far-sound .status-to, sound .seen, d .young, d .recent)) (omega (arith, d .begun, top-window sound))
 
       by-discard : (old : Bool) → far.discards (r .link .far) (far.rx-count (r .link .far) (d .part .sn)) (d .part) ≡ old
           → Link-sound acc got ran
-            (state
-            (cond old (link.answering (link.with-far (r .link) (far.discarded (d .part) (r .link .far))) (link.arrived link.discarded 0) buffer)
-            (cond (far.clashes (r .link .far .sdu (far.rx-count (r .link .far) (d .part .sn))) (d .part) || leb near.packet-limit (far.rx-count (r .link .far) (d .part .sn)))
-            (link.refusing (r .link) (at EndClash (link.so-place (d .part .segment))) buffer)
-            (link.takes-in s (far.rx-count (r .link .far) (d .part .sn)) (d .part) buffer (r .link)))
-            .link)
-            (r .forward) (r .back))
+          (state
+          (cond old (link.answering (link.with-far (r .link) (far.discarded (d .part) (r .link .far))) (link.arrived link.discarded 0) buffer)
+          (cond (far.clashes (r .link .far .sdu (far.rx-count (r .link .far) (d .part .sn))) (d .part) || leb near.packet-limit (far.rx-count (r .link .far) (d .part .sn)))
+          (link.refusing (r .link) (at EndClash (link.so-place (d .part .segment))) buffer)
+          (link.takes-in s (far.rx-count (r .link .far) (d .part .sn)) (d .part) buffer (r .link)))
+          .link)
+          (r .forward) (r .back))
       by-discard true e = discarded-in (d .part)
       by-discard false e =
           ⊎-elim (λ old. absurd (both-ways _ e old))
           (λ new.
-            subst (λ (o : link.Outcome). Link-sound acc got ran (state (o .link) (r .forward) (r .back))) (sym (cond-false _ _ _ (new .1)))
-            (received-in s buffer (far.rx-count (r .link .far) (d .part .sn)) (d .part) (new .2) (omega (arith, new .0, d .begun)) (omega (arith, new .0, d .young, d .recent))))
+          subst (λ (o : link.Outcome). Link-sound acc got ran (state (o .link) (r .forward) (r .back))) (sym (cond-false _ _ _ (new .1)))
+          (received-in s buffer (far.rx-count (r .link .far) (d .part .sn)) (d .part) (new .2) (omega (arith, new .0, d .begun)) (omega (arith, new .0, d .young, d .recent))))
           arrives
 
       by-fault : (fault : Option Fault) → Link-sound acc got ran (state (link.reads-far s (unless fault (Ok (amd (d .part)))) buffer (r .link) .link) (r .forward) (r .back))
@@ -487,17 +487,17 @@ module _ (acc got : List Bytes) (ran : Bool) (r : State) (sound : Link-sound acc
   pub collected-in : (s : pdcp.Stored) (rest : List pdcp.Stored) → r .link .pdcp .store ≡ s ∷ rest → s .count < r .link .pdcp .RX-DELIV
       → Link-sound acc (got ++ s .packet ∷ []) ran (state (link.with-pdcp (r .link) (pdcp.collected (r .link .pdcp) rest)) (r .forward) (r .back))
   collected-in s rest is due-now =
-      record
-      { near-sound = sound .near-sound
-      ; far-sound = sound .far-sound
-      ; pdcp-sound = collected-sound acc got ran (r .link .pdcp) s rest (sound .pdcp-sound) is due-now
-      ; acknowledged = sound .acknowledged
-      ; complete = λ x e. collected-keeps acc got (got ++ s .packet ∷ []) ran (r .link .pdcp) s rest is due-now x (sound .complete x e)
-      ; seen = sound .seen
-      ; next = sound .next
-      ; forward = sound .forward
-      ; most = sound .most
-      ; most-to = sound .most-to
-      ; acknowledged-to = sound .acknowledged-to
-      ; back = sound .back
+      record {
+        near-sound = sound .near-sound;
+        far-sound = sound .far-sound;
+        pdcp-sound = collected-sound acc got ran (r .link .pdcp) s rest (sound .pdcp-sound) is due-now;
+        acknowledged = sound .acknowledged;
+        complete = λ x e. collected-keeps acc got (got ++ s .packet ∷ []) ran (r .link .pdcp) s rest is due-now x (sound .complete x e);
+        seen = sound .seen;
+        next = sound .next;
+        forward = sound .forward;
+        most = sound .most;
+        most-to = sound .most-to;
+        acknowledged-to = sound .acknowledged-to;
+        back = sound .back;
       }

@@ -70,8 +70,8 @@ mute-near s (Ok (status ack es)) buffer l = go (stale (l .near .TX-Next) (near.t
   where
     go : (t : Bool)
         → Mute
-          (cond t (link.answering l (link.arrived link.stale-report (link.number-due l)) buffer)
-          (link.answering (link.with-near l (near.reported s (near.tx-count (l .near) ack) es (l .near))) (link.arrived link.taken (link.number-due l)) buffer))
+        (cond t (link.answering l (link.arrived link.stale-report (link.number-due l)) buffer)
+        (link.answering (link.with-near l (near.reported s (near.tx-count (l .near) ack) es (l .near))) (link.arrived link.taken (link.number-due l)) buffer))
     go true = mute-arrived l link.stale-report (link.number-due l) buffer
     go false = mute-arrived (link.with-near l (near.reported s (near.tx-count (l .near) ack) es (l .near))) link.taken (link.number-due l) buffer
 
@@ -90,12 +90,12 @@ mute-far s (Ok (amd a)) buffer l =
 
     go : (old clash done : Bool)
         → Mute
-          (cond old (link.answering (link.with-far l (far.discarded a (l .far))) (link.arrived link.discarded 0) buffer)
-          (cond clash (link.refusing l (at EndClash (link.so-place (a .segment))) buffer)
-          (cond done
-          (link.hands-up (pdcp.handed-up s (far.sdu-bytes (link.sdu-now (far.rx-count (l .far) (a .sn)) a (l .far))) (l .pdcp)) buffer
-          (link.with-far l (far.taken s (far.rx-count (l .far) (a .sn)) a (l .far))))
-          (link.answering (link.with-far l (far.taken s (far.rx-count (l .far) (a .sn)) a (l .far))) (link.arrived link.kept 0) buffer))))
+        (cond old (link.answering (link.with-far l (far.discarded a (l .far))) (link.arrived link.discarded 0) buffer)
+        (cond clash (link.refusing l (at EndClash (link.so-place (a .segment))) buffer)
+        (cond done
+        (link.hands-up (pdcp.handed-up s (far.sdu-bytes (link.sdu-now (far.rx-count (l .far) (a .sn)) a (l .far))) (l .pdcp)) buffer
+        (link.with-far l (far.taken s (far.rx-count (l .far) (a .sn)) a (l .far))))
+        (link.answering (link.with-far l (far.taken s (far.rx-count (l .far) (a .sn)) a (l .far))) (link.arrived link.kept 0) buffer))))
     go true clash done = mute-arrived (link.with-far l (far.discarded a (l .far))) link.discarded 0 buffer
     go false true done = mute-refusing l (at EndClash (link.so-place (a .segment))) buffer
     go false false true =
@@ -142,12 +142,12 @@ module _ (acc got : List Bytes) (ran : Bool) (r : State) (sound : Link-sound acc
       go : (failed fits : Bool) → between 1 500 (length p) ≡ fits → (full : Bool) → leb (r .link .near .TX-Next-Ack + near.window-size) (r .link .near .TX-Next) ≡ full
           → (over : Bool) → leb near.packet-limit (r .link .near .TX-NEXT) ≡ over
           → Keeps acc got ran r (link.give p)
-            (cond failed (link.refusing (r .link) (at LinkFailed 0) [])
-            (cond (not fits) (link.refusing (r .link) (at PacketLength 0) [])
-            (cond full (link.refusing (r .link) (at WindowFull 0) [])
-            (cond over (link.refusing (r .link) (at PacketLimit 0) [])
-            (link.answering (link.with-near (r .link) (near.given p (r .link .near))) (link.accepted (r .link .near .TX-NEXT)) [])))))
-            (r .forward) (r .back)
+          (cond failed (link.refusing (r .link) (at LinkFailed 0) [])
+          (cond (not fits) (link.refusing (r .link) (at PacketLength 0) [])
+          (cond full (link.refusing (r .link) (at WindowFull 0) [])
+          (cond over (link.refusing (r .link) (at PacketLimit 0) [])
+          (link.answering (link.with-near (r .link) (near.given p (r .link .near))) (link.accepted (r .link .near .TX-NEXT)) [])))))
+          (r .forward) (r .back)
       go true fits f full u over v = none
       go false false f full u over v = none
       go false true f true u over v = none
@@ -166,9 +166,9 @@ module _ (acc got : List Bytes) (ran : Bool) (r : State) (sound : Link-sound acc
     where
       go : (fits : Bool) → between 5 512 size ≡ fits → (failed short : Bool) (run : Option near.Run) → near.served (r .link .near) size ≡ run
           → let o = cond (not fits) (link.refusing (r .link) (at GrantSize 0) buffer)
-                (cond failed (link.refusing (r .link) (at LinkFailed 0) buffer)
-                (cond short (link.refusing (r .link) (at ShortBuffer 0) buffer) (link.sends s run buffer (r .link)))) in
-            Puts (o .puts) (r .forward) forward → Keeps acc got ran r (link.spend Near size buffer) o forward (r .back)
+          (cond failed (link.refusing (r .link) (at LinkFailed 0) buffer)
+          (cond short (link.refusing (r .link) (at ShortBuffer 0) buffer) (link.sends s run buffer (r .link)))) in
+          Puts (o .puts) (r .forward) forward → Keeps acc got ran r (link.spend Near size buffer) o forward (r .back)
       go false f failed short run e puts = kept-as-it-was forward (r .back) puts refl
       go true f true short run e puts = kept-as-it-was forward (r .back) puts refl
       go true f false true run e puts = kept-as-it-was forward (r .back) puts refl
@@ -184,11 +184,11 @@ module _ (acc got : List Bytes) (ran : Bool) (r : State) (sound : Link-sound acc
     where
       go : (fits short wanted : Bool)
           → let o = cond (not fits) (link.refusing (r .link) (at GrantSize 0) buffer)
-                (cond short (link.refusing (r .link) (at ShortBuffer 0) buffer)
-                (cond wanted
-                (link.putting (link.with-far (r .link) (far.reported s (r .link .far))) (encode (report-pdu (far.report (r .link .far) size))) buffer)
-                (link.answering (r .link) (link.sent 0) buffer))) in
-            Puts (o .puts) (r .back) back → Keeps acc got ran r (link.spend Far size buffer) o (r .forward) back
+          (cond short (link.refusing (r .link) (at ShortBuffer 0) buffer)
+          (cond wanted
+          (link.putting (link.with-far (r .link) (far.reported s (r .link .far))) (encode (report-pdu (far.report (r .link .far) size))) buffer)
+          (link.answering (r .link) (link.sent 0) buffer))) in
+          Puts (o .puts) (r .back) back → Keeps acc got ran r (link.spend Far size buffer) o (r .forward) back
       go false short wanted puts = kept-as-it-was (r .forward) back refl puts
       go true true wanted puts = kept-as-it-was (r .forward) back refl puts
       go true false false puts = kept-as-it-was (r .forward) back refl puts
@@ -205,9 +205,9 @@ module _ (acc got : List Bytes) (ran : Bool) (r : State) (sound : Link-sound acc
       by-room : (first : pdcp.Stored) (rest : List pdcp.Stored) → r .link .pdcp .store ≡ first ∷ rest → first .count < r .link .pdcp .RX-DELIV → (others : List pdcp.Stored)
           → (short : Bool) → ltb (length buffer) (length (first .packet)) ≡ short
           → Keeps acc got ran r (link.collect buffer)
-            (cond short (link.refusing (r .link) (at ShortCollect 0) buffer)
-            (link.answering (link.with-pdcp (r .link) (pdcp.collected (r .link .pdcp) rest)) (link.collected (length (first .packet))) (put (first .packet) buffer)))
-            (r .forward) (r .back)
+          (cond short (link.refusing (r .link) (at ShortCollect 0) buffer)
+          (link.answering (link.with-pdcp (r .link) (pdcp.collected (r .link .pdcp) rest)) (link.collected (length (first .packet))) (put (first .packet) buffer)))
+          (r .forward) (r .back)
       by-room first rest is due-now others true e = none
       by-room first rest is due-now others false e =
           subst (λ a. Link-sound a (got ++ take (length (first .packet)) (put (first .packet) buffer) ∷ []) (ran || false) (state (link.with-pdcp (r .link) (pdcp.collected (r .link .pdcp) rest)) (r .forward) (r .back))) (sym (append-nil acc))
@@ -217,7 +217,7 @@ module _ (acc got : List Bytes) (ran : Bool) (r : State) (sound : Link-sound acc
 
       by-due : (first : pdcp.Stored) (rest : List pdcp.Stored) → r .link .pdcp .store ≡ first ∷ rest → (due-now : Bool) → ltb (first .count) (r .link .pdcp .RX-DELIV) ≡ due-now
           → Keeps acc got ran r (link.collect buffer)
-            (link.collects-from (cond due-now (first ∷ pdcp.due-of (r .link .pdcp .RX-DELIV) rest) []) (first ∷ rest) buffer (r .link)) (r .forward) (r .back)
+          (link.collects-from (cond due-now (first ∷ pdcp.due-of (r .link .pdcp .RX-DELIV) rest) []) (first ∷ rest) buffer (r .link)) (r .forward) (r .back)
       by-due first rest is false e = none
       by-due first rest is true e =
           by-room first rest is (ltb-true (first .count) (r .link .pdcp .RX-DELIV) e) [] (ltb (length buffer) (length (first .packet))) refl
@@ -308,11 +308,11 @@ module _ (acc got : List Bytes) (ran : Bool) (r : State) (sound : Link-sound acc
 
       by-due : (due : Bool) (o : Option Bytes) → When due ((o ≡ None) × (forward ≡ r .forward)) (Takes draw buffer o (r .forward) forward)
           → Link-sound acc got ran
-            (state
-            (cond (ltb (length buffer) max-pdu) (link.refusing (r .link) (at ShortBuffer 0) buffer)
-            (cond due (link.refusing (r .link) (at PacketDue 0) buffer) (link.lets-in s Far o buffer (r .link)))
-            .link)
-            forward (r .back))
+          (state
+          (cond (ltb (length buffer) max-pdu) (link.refusing (r .link) (at ShortBuffer 0) buffer)
+          (cond due (link.refusing (r .link) (at PacketDue 0) buffer) (link.lets-in s Far o buffer (r .link)))
+          .link)
+          forward (r .back))
       by-due true o still = go (ltb (length buffer) max-pdu)
         where
           same : Link-sound acc got ran (state (r .link) forward (r .back))
@@ -374,7 +374,7 @@ or-assoc : (a b c : Bool) → ((a || b) || c) ≡ (a || (b || c))
 or-assoc true b c = refl
 or-assoc false b c = refl
 
-series-keeps : (s : Settings) (es : List Event) (acc got : List Bytes) (ran : Bool) (r : State) → Link-sound acc got ran r → Lawful s r es
+pub series-keeps : (s : Settings) (es : List Event) (acc got : List Bytes) (ran : Bool) (r : State) → Link-sound acc got ran r → Lawful s r es
     → Link-sound (acc ++ accepted-in s r es) (got ++ collected-in s r es) (ran || ran-out s r es) (end-of s r es)
 series-keeps s [] acc got ran r sound lawful = nothing-more acc got ran r sound
 series-keeps s (e ∷ es) acc got ran r sound lawful =

@@ -32,7 +32,7 @@ use Rattle.std.specs.declared.result.Result.the-variants.{Ok, Err}
 -- the store ---------------------------------------------------------------------------------------------------------
 
 -- stored counts lie between the bounds
-stored-from : (acc : List Bytes) (low high : ℕ) (ss : List Stored) → Store-sound acc low high ss → (c : ℕ) → is-stored ss c ≡ true → (low ≤ c) × (c < high)
+pub stored-from : (acc : List Bytes) (low high : ℕ) (ss : List Stored) → Store-sound acc low high ss → (c : ℕ) → is-stored ss c ≡ true → (low ≤ c) × (c < high)
 stored-from acc low high [] sound c e = absurd (both-ways false refl e)
 stored-from acc low high (s ∷ ss) sound c e =
     ⊎-elim (λ h. let same = eqb-true (s .count) c h in (omega (arith, sound .0), omega (arith, sound .1)))
@@ -55,7 +55,7 @@ insert-sound acc low high (s ∷ ss) c sound new l h =
     go : (before : Bool) → ltb c (s .count) ≡ before
         → (s .count + 1 ≤ c → Store-sound acc (s .count + 1) high (insert (record { count = c; packet = packet acc c }) ss))
         → Store-sound acc low high
-          (cond before (record { count = c; packet = packet acc c } ∷ s ∷ ss) (s ∷ insert (record { count = c; packet = packet acc c }) ss))
+        (cond before (record { count = c; packet = packet acc c } ∷ s ∷ ss) (s ∷ insert (record { count = c; packet = packet acc c }) ss))
     go true e behind =
         let lt = ltb-true c (s .count) e in
         (l, h, refl, (omega arith, sound .1, sound .2, sound .3))
@@ -82,9 +82,9 @@ insert-stored new (s ∷ ss) c = go (ltb (new .count) (s .count)) (insert-stored
 -- the first COUNT from c on that is not stored
 next-missing : (acc : List Bytes) (low high : ℕ) (ss : List Stored) (c : ℕ) → Store-sound acc low high ss → c ≤ high
     → let r = seek (λ k. not (is-stored ss k)) (high - c) c in
-      (c ≤ r) × (r ≤ high) × (is-stored ss r ≡ false) × ((k : ℕ) → c ≤ k → k < r → is-stored ss k ≡ true)
+    (c ≤ r) × (r ≤ high) × (is-stored ss r ≡ false) × ((k : ℕ) → c ≤ k → k < r → is-stored ss k ≡ true)
 next-missing acc low high ss c sound le =
-    ( from , to , ⊎-elim found past (cases-lt r high) , λ k lo hi. not-false (is-stored ss k) (seek-before missing (high - c) c k lo hi))
+    (from, to, ⊎-elim found past (cases-lt r high), λ k lo hi. not-false (is-stored ss k) (seek-before missing (high - c) c k lo hi))
   where
     missing : ℕ → Bool
     missing k = not (is-stored ss k)
@@ -112,21 +112,21 @@ module _ (acc got : List Bytes) (ran : Bool) where
     where
       go : (b : Bool)
           → Pdcp-sound acc got ran
-            (cond b
-            (record { RX-DELIV = p .RX-DELIV; RX-NEXT = p .RX-NEXT; RX-REORD = p .RX-NEXT; store = p .store; t-Reordering = started (s .t-Reordering) })
-            p)
+          (cond b
+          (record { RX-DELIV = p .RX-DELIV; RX-NEXT = p .RX-NEXT; RX-REORD = p .RX-NEXT; store = p .store; t-Reordering = started (s .t-Reordering) })
+          p)
       go true =
-          record
-          { low = sound .low
-          ; low-to = sound .low-to
-          ; deliv-to = sound .deliv-to
-          ; next-to = sound .next-to
-          ; store = sound .store
-          ; awaited = sound .awaited
-          ; reorder = λ on. (sound .deliv-to, omega arith)
-          ; in-order = sound .in-order
-          ; first-ones = sound .first-ones
-          ; no-gap = sound .no-gap
+          record {
+            low = sound .low;
+            low-to = sound .low-to;
+            deliv-to = sound .deliv-to;
+            next-to = sound .next-to;
+            store = sound .store;
+            awaited = sound .awaited;
+            reorder = λ on. (sound .deliv-to, omega arith);
+            in-order = sound .in-order;
+            first-ones = sound .first-ones;
+            no-gap = sound .no-gap;
           }
       go false = sound
 
@@ -137,17 +137,17 @@ module _ (acc got : List Bytes) (ran : Bool) where
       → (ran ≡ false → (c : ℕ) → low ≤ c → c < deliv → is-stored (p .store) c ≡ true)
       → Pdcp-sound acc got ran (delivering deliv p)
   delivering-sound p deliv low lowto to next store awaited reord order firsts gaps =
-      record
-      { low = low
-      ; low-to = lowto
-      ; deliv-to = to
-      ; next-to = next
-      ; store = store
-      ; awaited = awaited
-      ; reorder = on (leb (p .RX-REORD) deliv) refl
-      ; in-order = order
-      ; first-ones = firsts
-      ; no-gap = gaps
+      record {
+        low = low;
+        low-to = lowto;
+        deliv-to = to;
+        next-to = next;
+        store = store;
+        awaited = awaited;
+        reorder = on (leb (p .RX-REORD) deliv) refl;
+        in-order = order;
+        first-ones = firsts;
+        no-gap = gaps;
       }
     where
       on : (b : Bool) → leb (p .RX-REORD) deliv ≡ b → runs (cond b stopped (p .t-Reordering)) ≡ true → (deliv ≤ p .RX-REORD) × (p .RX-REORD ≤ p .RX-NEXT)
@@ -181,7 +181,7 @@ module _ (acc got : List Bytes) (ran : Bool) where
           (omega (arith, sound .low-to, from, next .0)) (next .1) (omega (arith, sound .next-to, small)) wide (next .2)
           (λ on. omega (arith, sound .reorder on .1)) (sound .in-order) (sound .first-ones)
           (λ still k lo hi.
-            ⊎-elim (λ h. stays k (sound .no-gap still k lo (omega (arith, h, same)))) (λ h. next .3 k h hi) (cases-lt k c))
+          ⊎-elim (λ h. stays k (sound .no-gap still k lo (omega (arith, h, same)))) (λ h. next .3 k h hi) (cases-lt k c))
       go false e =
           let other = eqb-false c (p .RX-DELIV) e in
           delivering-sound (storing c (packet acc c) p) (p .RX-DELIV) (sound .low) (sound .low-to) (omega (arith, sound .deliv-to)) (omega (arith, sound .next-to, small)) wide
@@ -196,8 +196,8 @@ module _ (acc got : List Bytes) (ran : Bool) where
   reordering-keeps s p = go (not (runs (p .t-Reordering)) && ltb (p .RX-DELIV) (p .RX-NEXT))
     where
       go : (b : Bool) → let q = cond b
-              (record { RX-DELIV = p .RX-DELIV; RX-NEXT = p .RX-NEXT; RX-REORD = p .RX-NEXT; store = p .store; t-Reordering = started (s .t-Reordering) })
-              p in
+          (record { RX-DELIV = p .RX-DELIV; RX-NEXT = p .RX-NEXT; RX-REORD = p .RX-NEXT; store = p .store; t-Reordering = started (s .t-Reordering) })
+          p in
           (q .RX-DELIV ≡ p .RX-DELIV) × (q .store ≡ p .store) × (q .RX-NEXT ≡ p .RX-NEXT)
       go true = (refl, refl, refl)
       go false = (refl, refl, refl)
@@ -207,9 +207,10 @@ module _ (acc got : List Bytes) (ran : Bool) where
   held-by p q d st k (inr h) = inr (ap (λ ss. is-stored ss k) st ∙ h)
 
   accepted-holds : (s : Settings) (p : Pdcp) (c : ℕ) → p .RX-DELIV ≤ c → Holds-on p (accepted s c (packet acc c) p) × Held (accepted s c (packet acc c) p) c
-  accepted-holds s p c from =
-      (λ k h. held-by moved (reordering s moved) (reordering-keeps s moved .0) (reordering-keeps s moved .1) k (on k h)
-      , held-by moved (reordering s moved) (reordering-keeps s moved .0) (reordering-keeps s moved .1) c (inr here))
+  accepted-holds s p c from = (
+    λ k h. held-by moved (reordering s moved) (reordering-keeps s moved .0) (reordering-keeps s moved .1) k (on k h),
+    held-by moved (reordering s moved) (reordering-keeps s moved .0) (reordering-keeps s moved .1) c (inr here),
+  )
     where
       moved : Pdcp
       moved = delivering (cond (eqb c (p .RX-DELIV)) (unstored-from (storing c (packet acc c) p) c) (p .RX-DELIV)) (storing c (packet acc c) p)
@@ -226,12 +227,12 @@ module _ (acc got : List Bytes) (ran : Bool) where
       on k (inr h) = inr (insert-stored (record { count = c; packet = packet acc c }) (p .store) k ∙ or-right (eqb c k) (is-stored (p .store) k) h)
 
   -- the lowest stored packet is due, and is collected
-  lowest-stored : (low high : ℕ) (s : Stored) (ss : List Stored) → Store-sound acc low high (s ∷ ss) → (c : ℕ) → is-stored (s ∷ ss) c ≡ true → s .count ≤ c
+  pub lowest-stored : (low high : ℕ) (s : Stored) (ss : List Stored) → Store-sound acc low high (s ∷ ss) → (c : ℕ) → is-stored (s ∷ ss) c ≡ true → s .count ≤ c
   lowest-stored low high s ss sound c e =
       ⊎-elim (λ h. omega (arith, eqb-true (s .count) c h)) (λ h. omega (arith, stored-from acc (s .count + 1) high ss (sound .3) c h .0))
       (or-cases (eqb (s .count) c) (is-stored ss c) e)
 
-  other-stored : (s : Stored) (ss : List Stored) (c : ℕ) → s .count < c → is-stored (s ∷ ss) c ≡ true → is-stored ss c ≡ true
+  pub other-stored : (s : Stored) (ss : List Stored) (c : ℕ) → s .count < c → is-stored (s ∷ ss) c ≡ true → is-stored ss c ≡ true
   other-stored s ss c lt e =
       ⊎-elim (λ h. absurd (omega (arith, lt, eqb-true (s .count) c h))) (λ h. h) (or-cases (eqb (s .count) c) (is-stored ss c) e)
 
@@ -242,25 +243,25 @@ module _ (acc got : List Bytes) (ran : Bool) (p : Pdcp) (s : Stored) (rest : Lis
       let store : Store-sound acc (sound .low) (p .RX-NEXT) (s ∷ rest) = subst (Store-sound acc (sound .low) (p .RX-NEXT)) is (sound .store) in
       let inside : s .count < length acc = omega (arith, sound .next-to, sound .deliv-to, due-now) in
       let one-more : take (s .count + 1) acc ≡ take (s .count) acc ++ s .packet ∷ [] =
-          take-more acc (s .count) [] inside ∙ ap (λ x. take (s .count) acc ++ x ∷ []) (sym (store .2)) in
-      record
-      { low = s .count + 1
-      ; low-to = omega (arith, due-now)
-      ; deliv-to = sound .deliv-to
-      ; next-to = sound .next-to
-      ; store = store .3
-      ; awaited =
-          ⊎-elim (λ e. absurd (both-ways (is-stored (p .store) (p .RX-DELIV)) (sound .awaited) (ap (λ ss. is-stored ss (p .RX-DELIV)) is ∙ or-right (eqb (s .count) (p .RX-DELIV)) (is-stored rest (p .RX-DELIV)) e)))
-          (λ e. e) (cases-bool (is-stored rest (p .RX-DELIV)))
-      ; reorder = sound .reorder
-      ; in-order =
-          subst (Within (got ++ s .packet ∷ [])) (sym one-more)
-          (within-append (s .packet ∷ []) (within-longer got acc (sound .low) (s .count) (store .0) (sound .in-order)))
-      ; first-ones = λ still.
-          let same : s .count ≡ sound .low = first-is still store in
-          ap (λ front. front ++ s .packet ∷ []) (sound .first-ones still ∙ ap (λ n. take n acc) (sym same)) ∙ sym one-more
-      ; no-gap = λ still c lo hi.
-          other-stored acc got ran s rest c (omega (arith, lo)) (ap (λ ss. is-stored ss c) (sym is) ∙ sound .no-gap still c (omega (arith, lo, store .0)) hi)
+      take-more acc (s .count) [] inside ∙ ap (λ x. take (s .count) acc ++ x ∷ []) (sym (store .2)) in
+      record {
+        low = s .count + 1;
+        low-to = omega (arith, due-now);
+        deliv-to = sound .deliv-to;
+        next-to = sound .next-to;
+        store = store .3;
+        awaited =
+            ⊎-elim (λ e. absurd (both-ways (is-stored (p .store) (p .RX-DELIV)) (sound .awaited) (ap (λ ss. is-stored ss (p .RX-DELIV)) is ∙ or-right (eqb (s .count) (p .RX-DELIV)) (is-stored rest (p .RX-DELIV)) e)))
+            (λ e. e) (cases-bool (is-stored rest (p .RX-DELIV)));
+        reorder = sound .reorder;
+        in-order =
+            subst (Within (got ++ s .packet ∷ [])) (sym one-more)
+            (within-append (s .packet ∷ []) (within-longer got acc (sound .low) (s .count) (store .0) (sound .in-order)));
+        first-ones = λ still.
+            let same : s .count ≡ sound .low = first-is still store in
+            ap (λ front. front ++ s .packet ∷ []) (sound .first-ones still ∙ ap (λ n. take n acc) (sym same)) ∙ sym one-more;
+        no-gap = λ still c lo hi.
+            other-stored acc got ran s rest c (omega (arith, lo)) (ap (λ ss. is-stored ss c) (sym is) ∙ sound .no-gap still c (omega (arith, lo, store .0)) hi);
       }
     where
       -- nothing is missing below RX-DELIV, so the lowest stored COUNT is the first that was not collected
@@ -286,39 +287,39 @@ ticked-sound acc got ran s p sound = go (runs-out (p .t-Reordering)) refl
   where
     go : (out : Bool) → runs-out (p .t-Reordering) ≡ out
         → Pdcp-sound acc got (ran || out)
-          (cond out
-          (reordering s (record { RX-DELIV = unstored-from p (p .RX-REORD); RX-NEXT = p .RX-NEXT; RX-REORD = p .RX-REORD; store = p .store; t-Reordering = stopped }))
-          (record { RX-DELIV = p .RX-DELIV; RX-NEXT = p .RX-NEXT; RX-REORD = p .RX-REORD; store = p .store; t-Reordering = ticked (p .t-Reordering) }))
+        (cond out
+        (reordering s (record { RX-DELIV = unstored-from p (p .RX-REORD); RX-NEXT = p .RX-NEXT; RX-REORD = p .RX-REORD; store = p .store; t-Reordering = stopped }))
+        (record { RX-DELIV = p .RX-DELIV; RX-NEXT = p .RX-NEXT; RX-REORD = p .RX-REORD; store = p .store; t-Reordering = ticked (p .t-Reordering) }))
     go true e =
         let bounds = sound .reorder (runs-before (p .t-Reordering) e) in
         let next = next-missing acc (sound .low) (p .RX-NEXT) (p .store) (p .RX-REORD) (sound .store) (bounds .1) in
         let over : (ran || true) ≡ true = or-right ran true refl in
         reordering-sound acc got (ran || true) s
         (record { RX-DELIV = unstored-from p (p .RX-REORD); RX-NEXT = p .RX-NEXT; RX-REORD = p .RX-REORD; store = p .store; t-Reordering = stopped })
-        (record
-        { low = sound .low
-        ; low-to = omega (arith, sound .low-to, bounds .0, next .0)
-        ; deliv-to = next .1
-        ; next-to = sound .next-to
-        ; store = sound .store
-        ; awaited = next .2
-        ; reorder = λ on. absurd (both-ways false refl on)
-        ; in-order = sound .in-order
-        ; first-ones = λ still. absurd (both-ways (ran || true) still over)
-        ; no-gap = λ still. absurd (both-ways (ran || true) still over)
+        (record {
+          low = sound .low;
+          low-to = omega (arith, sound .low-to, bounds .0, next .0);
+          deliv-to = next .1;
+          next-to = sound .next-to;
+          store = sound .store;
+          awaited = next .2;
+          reorder = λ on. absurd (both-ways false refl on);
+          in-order = sound .in-order;
+          first-ones = λ still. absurd (both-ways (ran || true) still over);
+          no-gap = λ still. absurd (both-ways (ran || true) still over);
         })
     go false e =
-        record
-        { low = sound .low
-        ; low-to = sound .low-to
-        ; deliv-to = sound .deliv-to
-        ; next-to = sound .next-to
-        ; store = sound .store
-        ; awaited = sound .awaited
-        ; reorder = λ on. sound .reorder (ran-before (p .t-Reordering) on)
-        ; in-order = sound .in-order
-        ; first-ones = λ still. sound .first-ones (or-parts ran false still .0)
-        ; no-gap = λ still. sound .no-gap (or-parts ran false still .0)
+        record {
+          low = sound .low;
+          low-to = sound .low-to;
+          deliv-to = sound .deliv-to;
+          next-to = sound .next-to;
+          store = sound .store;
+          awaited = sound .awaited;
+          reorder = λ on. sound .reorder (ran-before (p .t-Reordering) on);
+          in-order = sound .in-order;
+          first-ones = λ still. sound .first-ones (or-parts ran false still .0);
+          no-gap = λ still. sound .no-gap (or-parts ran false still .0);
         }
 
 -- packets accepted later change nothing that is stored or was collected
@@ -333,33 +334,33 @@ store-given acc q low high (s ∷ ss) h sound =
 pub given-sound : (acc got : List Bytes) (ran : Bool) (q : Bytes) (p : Pdcp) → Pdcp-sound acc got ran p → Pdcp-sound (acc ++ q ∷ []) got ran p
 given-sound acc got ran q p sound =
     let front : take (sound .low) (acc ++ q ∷ []) ≡ take (sound .low) acc =
-        take-append-le (sound .low) acc (q ∷ []) (omega (arith, sound .low-to, sound .deliv-to, sound .next-to)) in
-    record
-    { low = sound .low
-    ; low-to = sound .low-to
-    ; deliv-to = sound .deliv-to
-    ; next-to = omega (arith, sound .next-to, length-append acc (q ∷ []))
-    ; store = store-given acc q (sound .low) (p .RX-NEXT) (p .store) (sound .next-to) (sound .store)
-    ; awaited = sound .awaited
-    ; reorder = sound .reorder
-    ; in-order = subst (Within got) (sym front) (sound .in-order)
-    ; first-ones = λ still. sound .first-ones still ∙ sym front
-    ; no-gap = sound .no-gap
+    take-append-le (sound .low) acc (q ∷ []) (omega (arith, sound .low-to, sound .deliv-to, sound .next-to)) in
+    record {
+      low = sound .low;
+      low-to = sound .low-to;
+      deliv-to = sound .deliv-to;
+      next-to = omega (arith, sound .next-to, length-append acc (q ∷ []));
+      store = store-given acc q (sound .low) (p .RX-NEXT) (p .store) (sound .next-to) (sound .store);
+      awaited = sound .awaited;
+      reorder = sound .reorder;
+      in-order = subst (Within got) (sym front) (sound .in-order);
+      first-ones = λ still. sound .first-ones still ∙ sym front;
+      no-gap = sound .no-gap;
     }
 
 pub new-sound : Pdcp-sound [] [] false new-pdcp
 new-sound =
-    record
-    { low = 0
-    ; low-to = omega arith
-    ; deliv-to = omega arith
-    ; next-to = omega arith
-    ; store = tt
-    ; awaited = refl
-    ; reorder = λ on. absurd (both-ways false refl on)
-    ; in-order = done
-    ; first-ones = λ still. refl
-    ; no-gap = λ still c lo hi. absurd (omega (arith, hi))
+    record {
+      low = 0;
+      low-to = omega arith;
+      deliv-to = omega arith;
+      next-to = omega arith;
+      store = tt;
+      awaited = refl;
+      reorder = λ on. absurd (both-ways false refl on);
+      in-order = done;
+      first-ones = λ still. refl;
+      no-gap = λ still c lo hi. absurd (omega (arith, hi));
     }
 
 -- an SDU handed up: the one of a COUNT that is at most 15 ahead of RX-DELIV and not far behind is not refused
@@ -395,24 +396,24 @@ handed-sound acc got ran s c p packets sound small near-front near-back =
 
     go : (b : Bool) → (ltb c (p .RX-DELIV) || is-stored (p .store) c) ≡ b → Handed acc got ran s c p
     go true e =
-        record
-        { after = p
-        ; answer = outcome ∙ ap {B = Result Pdcp Fault} Ok (cond-true _ _ _ e)
-        ; sound = sound
-        ; keeps = λ k h. h
-        ; held = ⊎-elim (λ h. inl (ltb-true c (p .RX-DELIV) h)) inr (or-cases (ltb c (p .RX-DELIV)) (is-stored (p .store) c) e)
-        ; next = omega arith
+        record {
+          after = p;
+          answer = outcome ∙ ap {B = Result Pdcp Fault} Ok (cond-true _ _ _ e);
+          sound = sound;
+          keeps = λ k h. h;
+          held = ⊎-elim (λ h. inl (ltb-true c (p .RX-DELIV) h)) inr (or-cases (ltb c (p .RX-DELIV)) (is-stored (p .store) c) e);
+          next = omega arith;
         }
     go false e =
         let from = ltb-false c (p .RX-DELIV) (or-parts (ltb c (p .RX-DELIV)) (is-stored (p .store) c) e .0) in
         let holds = accepted-holds acc got ran s p c from in
-        record
-        { after = accepted s c (packet acc c) p
-        ; answer = outcome ∙ ap {B = Result Pdcp Fault} Ok (cond-false _ _ _ e)
-        ; sound = accepted-sound acc got ran s p c sound small from (or-parts (ltb c (p .RX-DELIV)) (is-stored (p .store) c) e .1)
-        ; keeps = holds .0
-        ; held = holds .1
-        ; next = omega (arith, next-by)
+        record {
+          after = accepted s c (packet acc c) p;
+          answer = outcome ∙ ap {B = Result Pdcp Fault} Ok (cond-false _ _ _ e);
+          sound = accepted-sound acc got ran s p c sound small from (or-parts (ltb c (p .RX-DELIV)) (is-stored (p .store) c) e .1);
+          keeps = holds .0;
+          held = holds .1;
+          next = omega (arith, next-by);
         }
 
 -- a Tick and a Collect let go of nothing that is held
@@ -425,15 +426,15 @@ ticked-keeps acc got ran s p sound = go (runs-out (p .t-Reordering)) refl
 
     go : (out : Bool) → runs-out (p .t-Reordering) ≡ out
         → let q = cond out
-              (reordering s (record { RX-DELIV = unstored-from p (p .RX-REORD); RX-NEXT = p .RX-NEXT; RX-REORD = p .RX-REORD; store = p .store; t-Reordering = stopped }))
-              (record { RX-DELIV = p .RX-DELIV; RX-NEXT = p .RX-NEXT; RX-REORD = p .RX-REORD; store = p .store; t-Reordering = ticked (p .t-Reordering) }) in
-          ((k : ℕ) → Held acc got ran p k → Held acc got ran q k) × (q .RX-NEXT ≡ p .RX-NEXT)
+        (reordering s (record { RX-DELIV = unstored-from p (p .RX-REORD); RX-NEXT = p .RX-NEXT; RX-REORD = p .RX-REORD; store = p .store; t-Reordering = stopped }))
+        (record { RX-DELIV = p .RX-DELIV; RX-NEXT = p .RX-NEXT; RX-REORD = p .RX-REORD; store = p .store; t-Reordering = ticked (p .t-Reordering) }) in
+        ((k : ℕ) → Held acc got ran p k → Held acc got ran q k) × (q .RX-NEXT ≡ p .RX-NEXT)
     go true e =
         let same = reordering-keeps acc got ran s moved in
         let bounds = sound .reorder (runs-before (p .t-Reordering) e) in
-        let further = seek-from (λ c. not (is-stored (p .store) c)) (p .RX-NEXT - p .RX-REORD) (p .RX-REORD) in
-        ( λ k h. held-by acc got ran moved (reordering s moved) (same .0) (same .1) k (⊎-elim (λ l. inl (omega (arith, l, bounds .0, further))) inr h)
-        , same .2
+        let further = seek-from (λ c. not (is-stored (p .store) c)) (p .RX-NEXT - p .RX-REORD) (p .RX-REORD) in (
+          λ k h. held-by acc got ran moved (reordering s moved) (same .0) (same .1) k (⊎-elim (λ l. inl (omega (arith, l, bounds .0, further))) inr h),
+          same .2,
         )
     go false e = (λ k h. h, refl)
 

@@ -46,7 +46,7 @@ pub record Delivers (s : Settings) (es : List Event) : Type 0 where
   pub first-ones : In-time s es → passed s es ≡ take (length (passed s es)) (accepted s es)
   -- what is acknowledged was collected, is due, or is stored
   pub none-lost : In-time s es → (c : ℕ) → c < length (accepted s es) → Acknowledged (link-after s es) c
-    → (c < length (passed s es)) ⊎ Stored-under c (getD (accepted s es) c []) (link-after s es)
+      → (c < length (passed s es)) ⊎ Stored-under c (getD (accepted s es) c []) (link-after s es)
 
 -- at the end of a series nothing is unacknowledged, and nothing is due
 abbrev pub Finished : Settings → List Event → Type 0

@@ -1,5 +1,6 @@
 //! The laws of numbers and formats, each the contract of a function that does nothing else.
 
+ghost use Rattle.protocol.specs.Delivery.{Delivery};
 ghost use Rattle.protocol.specs.Examples.{Worked-examples, Worked-series};
 ghost use Rattle.protocol.specs.Laws.{One-count, One-pdcp-count, Written-reads-back, Read-writes-back, Reserved-not-read, Pdcp-round-trip, Draft-writes};
 
@@ -29,6 +30,11 @@ pub fn pdcp_header_round_trip()
 
 pub fn draft_writes_its_entries()
     ensures { λ _. ⌜ Draft-writes ⌝ }
+{}
+
+/// Every lawful series of calls from a new link delivers.
+pub fn lawful_series_deliver()
+    ensures { λ _. ⌜ Delivery ⌝ }
 {}
 
 pub fn worked_examples()

@@ -11,6 +11,7 @@ pub use faults::Fault;
 pub use faults::Layer;
 pub use faults::Refusal;
 pub use laws::draft_writes_its_entries;
+pub use laws::lawful_series_deliver;
 pub use laws::pdcp_header_round_trip;
 pub use laws::read_pdu_writes_back;
 pub use laws::reserved_bits_are_not_read;
