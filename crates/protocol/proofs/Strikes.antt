@@ -5,7 +5,7 @@ use mathlib.Core.Path.{_≡_, refl}
 use Prim.Native.Nat.{ℕ, zero, suc, _+_, _≤_, _<_}
 use native.Mathlib.Omega.{arith}
 use lib.Dec.{ltb}
-use lib.ListN.{length, take, drop, getD}
+use lib.ListN.{drop}
 use Rattle.protocol.specs.Airs.{Waiting, Within, done, kept, struck, carries, age-limit, aged, after-put, takes, Takes}
 use Rattle.protocol.specs.Bytes.{Bytes}
 use Rattle.std.proofs.shelf.Tests.{ltb-true, cond-true, cond-false}
