@@ -1,21 +1,19 @@
 -- What pipe and pool let out and leave, and that every air may.
 use mathlib.Core.Bool.{Bool, true, false, cond}
-use mathlib.Core.List.{List, [], _∷_, _++_, map}
-use mathlib.Core.Logic.{⊎-elim}
+use mathlib.Core.List.{List, [], _∷_}
 use mathlib.Core.Path.{_≡_, refl, sym, _∙_, ap, subst}
-use Prim.Native.Nat.{ℕ, zero, suc, _+_, _-_, _<_, _≤_}
+use Prim.Native.Nat.{ℕ, zero, suc, _-_, _<_, _≤_}
 use native.Mathlib.Omega.{arith}
 use lib.Dec.{leb}
-use lib.ListN.{length, take, drop, getD}
+use lib.ListN.{length, take, getD}
 use Rattle.air.proofs.Fronts.{length-held, held-at}
-use Rattle.air.specs.Kept.{pdu-at, left-by, out-at, left-at, put-in, Took}
+use Rattle.air.specs.Kept.{pdu-at, left-by, out-at, put-in, Took}
 use Rattle.air.specs.Meaning.{Sound, Answers}
-use Rattle.air.specs.Queues.{Carried, capacity, no-entry, waiting-at}
+use Rattle.air.specs.Queues.{capacity, no-entry, waiting-at}
 use Rattle.air.specs.Waits.{held-entries, waits}
-use Rattle.air.specs.declared.entries.Entry.{Entry}
 use Rattle.air.specs.declared.queues.Queue.{Queue}
 use Rattle.protocol.proofs.Strikes.{within-all, within-none, within-removed, within-drop, all-within}
-use Rattle.protocol.specs.Airs.{Waiting, Within, kept, struck, max-pdu, max-draw, age-limit, carries, Waits, Lets-out, Takes, takes, laid, aged, after-put}
+use Rattle.protocol.specs.Airs.{Waiting, Within, kept, struck, max-pdu, max-draw, age-limit, carries, Lets-out, Takes, takes, laid, aged, after-put}
 use Rattle.protocol.specs.Bytes.{Bytes, put}
 use Rattle.std.proofs.shelf.Elements.{all-from-getD, all-map}
 use Rattle.std.proofs.shelf.Lists.{length-take-le}

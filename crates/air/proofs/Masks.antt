@@ -3,7 +3,6 @@ use mathlib.Core.Bool.{true, false, not}
 use mathlib.Core.Path.{_≡_, sym, _∙_}
 use Prim.Native.Nat.{ℕ, _+_, _/_, _%_, _^_}
 use lib.Bits.{bitAnd}
-use lib.Dec.{eqb}
 use Rattle.air.specs.Fading.{passes, number-after}
 use Rattle.protocol.specs.Airs.{carries}
 use Rattle.protocol.specs.Bytes.{Bytes, bit}

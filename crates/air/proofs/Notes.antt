@@ -1,5 +1,4 @@
 -- What holds of entries when one is removed, added or turned to the end.
-use mathlib.Core.Bool.{Bool, true, false, cond}
 use mathlib.Core.List.{List, [], _∷_, _++_, map, map-append}
 use mathlib.Core.Logic.{_⊎_, inl, inr, ⊎-elim}
 use mathlib.Core.Path.{_≡_, refl, sym, _∙_, ap, subst}
@@ -9,7 +8,7 @@ use native.Mathlib.Omega.{arith}
 use borrow.Author.Needs.{needs}
 use borrow.Rule.Slice.PartMut.{putMid, midOf}
 use lib.Dec.{ltb}
-use lib.ListN.{length, take, drop, getD, set, length-drop, length-append, length-take}
+use lib.ListN.{length, take, drop, getD, set, length-drop}
 use Rattle.air.specs.Queues.{Each, Pairs, Apart, Carried, Older, capacity, no-entry, raised, waiting-at}
 use Rattle.air.specs.declared.entries.Entry.{Entry}
 use Rattle.protocol.specs.Airs.{age-limit, aged}

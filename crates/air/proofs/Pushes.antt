@@ -52,13 +52,13 @@ module _ (q : Queue) (pdu : Bytes) (room : q .held < capacity) (carried : (1 ≤
   front : take (q .held + 1) (set (q .entries) (q .held) (noted q pdu)) ≡ held-entries q ++ noted q pdu ∷ []
   front = take-more-set (q .entries) (q .held) (noted q pdu) (omega (arith, q .bounded .0))
 
-  pub parts-pushed : Each (λ e. 1 ≤ e .age) (held-entries q) → Parts (written q pdu) (set (q .entries) (q .held) (noted q pdu)) (q .held + 1)
-  parts-pushed old =
+  pub parts-pushed : (store : List Bytes) → store ≡ written q pdu → Each (λ e. 1 ≤ e .age) (held-entries q) → Parts store (set (q .entries) (q .held) (noted q pdu)) (q .held + 1)
+  parts-pushed store is old =
       let fs = set (q .entries) (q .held) (noted q pdu) in
       let long = length-set (q .entries) (q .held) (noted q pdu) in
       let same = place-set (q .entries) (q .held) (noted q pdu) refl in
       let new : Carried (noted q pdu) = (carried .0, carried .1, omega arith) in (
-        stored,
+        subst Stored (sym is) stored,
         (
           (long ∙ q .bounded .0, omega arith),
           (
@@ -79,13 +79,14 @@ module _ (q : Queue) (pdu : Bytes) (room : q .held < capacity) (carried : (1 ≤
       let less : i < q .held = omega (arith, length-held q) in
       q .apart i (q .held) less (omega (arith, q .bounded .0)) (sym (ap (λ f. f .place) (held-at q i less)) ∙ e)
 
-  pub waits-pushed : map (waiting-at (written q pdu)) (take (q .held + 1) (set (q .entries) (q .held) (noted q pdu))) ≡ waits q ++ record { pdu = pdu; age = 0 } ∷ []
-  waits-pushed =
+  pub waits-pushed : (store : List Bytes) → store ≡ written q pdu → map (waiting-at store) (take (q .held + 1) (set (q .entries) (q .held) (noted q pdu))) ≡ waits q ++ record { pdu = pdu; age = 0 } ∷ []
+  waits-pushed store is =
       let block = getD (q .store) (free q) [] in
       let new : waiting-at (written q pdu) (noted q pdu) ≡ record { pdu = pdu; age = 0 } =
       ap (λ b. record { pdu = take (length pdu) b; age = 0 }) (getD-set-same (q .store) (free q) (put pdu block) [] free-within)
       ∙ ap (λ b. record { pdu = b; age = 0 }) (take-at pdu (drop (length pdu) block) (length pdu) refl) in
-      ap (map (waiting-at (written q pdu))) front ∙ map-push (waiting-at (written q pdu)) (held-entries q) (noted q pdu)
+      ap (λ s. map (waiting-at s) (take (q .held + 1) (set (q .entries) (q .held) (noted q pdu)))) is
+      ∙ ap (map (waiting-at (written q pdu))) front ∙ map-push (waiting-at (written q pdu)) (held-entries q) (noted q pdu)
       ∙ ap (λ ws. ws ++ waiting-at (written q pdu) (noted q pdu) ∷ []) (map-other (q .store) (free q) (put pdu block) (held-entries q) others)
       ∙ ap (λ w. waits q ++ w ∷ []) new
 

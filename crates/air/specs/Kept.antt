@@ -18,6 +18,7 @@ use Rattle.std.specs.shelf.Maps.{nth}
 abbrev pub newest : List Waiting → List Waiting
 newest waiting = drop (length waiting - capacity) waiting
 
+-- what waits in a pipe or pool after a Put
 abbrev pub put-in : Bytes → List Waiting → List Waiting
 put-in pdu waiting = newest (after-put pdu waiting)
 
@@ -42,7 +43,8 @@ pub record Took (k : ℕ) (keeps : Bool) (draw : ℕ) (buffer : Bytes) (answer :
   pub writes : written ≡ laid (out-at k draw buffer before) buffer
   pub leaves : after ≡ left-at k keeps draw buffer before
 
--- the pool takes the ((draw div 2) mod held)-th, and keeps it if the draw is odd
+-- The pipe takes the oldest, k = 0, and removes it. The pool takes the ((draw div 2) mod held)-th, and keeps it if the
+-- draw is odd.
 abbrev pub drawn : ℕ → List Waiting → ℕ
 drawn draw waiting = draw / 2 % length waiting
 

@@ -3,7 +3,7 @@
 ghost use mathlib.Core.Path.{_≡_};
 ghost use Prim.Native.Nat.{_<_, _≤_};
 ghost use lib.ListN.{length, take};
-ghost use Rattle.air.specs.Queues.{Each, Pairs, Stored, Apart, Carried, Older};
+ghost use Rattle.air.specs.Queues.{Each, Pairs, Stored, Apart, Carried, Older, capacity};
 
 mod edits;
 
@@ -21,8 +21,8 @@ pub struct Queue {
     entries: [Entry; CAPACITY],
     held: usize,
     ghost room: { Stored store },
-    ghost bounded: { (length entries ≡ 8) × (held ≤ 8) },
-    ghost placed: { Each (λ e. e .place < 8) entries },
+    ghost bounded: { (length entries ≡ capacity) × (held ≤ capacity) },
+    ghost placed: { Each (λ e. e .place < capacity) entries },
     ghost apart: { Pairs Apart entries },
     ghost carried: { Each Carried (take held entries) },
     ghost older: { Pairs Older (take held entries) },

@@ -7,21 +7,35 @@ mod scripts;
 
 use carriers::Carrier;
 use scripts::Command;
-use scripts::hex;
 use scripts::parse;
+use scripts::push_hex;
 use std::alloc::AllocError;
 use std::alloc::Global;
 use std::error::AnyError;
 
-/// What waits, oldest first, each with its age.
-fn listing(heap: Global, carrier: &Carrier) -> Result<String, AllocError> {
-    let mut text = String::from_str(heap, "  waits:")?;
+/// Writes what waits, oldest first, each with its age.
+fn push_listing(heap: Global, text: &mut String, carrier: &Carrier) -> Result<(), AllocError> {
+    text.push_str("  waits:")?;
     for k in 0..8 {
         if let Some((pdu, age)) = carrier.get(k) {
-            text.push_str(format!(heap, " {}@{age}", hex(heap, pdu)?)?.as_str())?;
+            text.push(' ')?;
+            push_hex(text, pdu)?;
+            text.push('@')?;
+            text.push_str(age.to_string(heap)?.as_str())?;
         }
     }
-    Ok(text)
+    Ok(())
+}
+
+/// Writes what a Take lets out.
+fn push_out(text: &mut String, carrier: &mut Carrier, draw: u16) -> Result<(), AllocError> {
+    let mut buffer = [0; 520];
+    text.push_str("  out: ")?;
+    match carrier.take(draw, &mut buffer) {
+        Some(length) => push_hex(text, &buffer[0..length])?,
+        None => text.push_str("none")?,
+    }
+    text.push('\n')
 }
 
 /// Carries a command out, and answers what is to be printed of it.
@@ -31,16 +45,9 @@ fn obey(heap: Global, carrier: &mut Carrier, command: Command) -> Result<String,
         Command::Start { pooled, mask } => *carrier = Carrier::new(pooled, mask),
         Command::Put(pdu) => carrier.put(pdu.as_slice()),
         Command::Skip => carrier.skip(),
-        Command::Take(draw) => {
-            let mut buffer = [0; 520];
-            let out = match carrier.take(draw, &mut buffer) {
-                Some(length) => hex(heap, &buffer[0..length])?,
-                None => String::from_str(heap, "none")?,
-            };
-            text.push_str(format!(heap, "  out: {out}\n")?.as_str())?;
-        }
+        Command::Take(draw) => push_out(&mut text, carrier, draw)?,
     }
-    text.push_str(listing(heap, carrier)?.as_str())?;
+    push_listing(heap, &mut text, carrier)?;
     Ok(text)
 }
 

@@ -78,11 +78,21 @@ fn bytes(heap: Global, digits: &[u8]) -> Result<Option<Vec<u8>>, AllocError> {
     Ok(Some(read))
 }
 
-/// Bytes as hexadecimal digits.
-pub fn hex(heap: Global, bytes: &[u8]) -> Result<String, AllocError> {
-    let mut text = String::new(heap);
+fn digit_of(value: u8) -> char
+    requires { ⌜ value < 16 ⌝ }
+{
+    char::from(if value < 10 {
+        b'0' + value
+    } else {
+        b'a' + (value - 10)
+    })
+}
+
+/// Writes bytes as hexadecimal digits.
+pub fn push_hex(text: &mut String, bytes: &[u8]) -> Result<(), AllocError> {
     for b in bytes {
-        text.push_str(format!(heap, "{b:02x}")?.as_str())?;
+        text.push(digit_of(*b / 16))?;
+        text.push(digit_of(*b % 16))?;
     }
-    Ok(text)
+    Ok(())
 }

@@ -23,5 +23,6 @@ pub mod ReorderingEnds
 pub mod PollsDelayed
 pub mod PacketsPassedOver
 pub mod GapsReported
+pub mod Recovery
 pub mod Laws
 pub mod Examples

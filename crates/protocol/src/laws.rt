@@ -3,6 +3,7 @@
 ghost use Rattle.protocol.specs.Delivery.{Delivery};
 ghost use Rattle.protocol.specs.Examples.{Worked-examples, Worked-series};
 ghost use Rattle.protocol.specs.Laws.{One-count, One-pdcp-count, Written-reads-back, Read-writes-back, Reserved-not-read, Pdcp-round-trip, Draft-writes};
+ghost use Rattle.protocol.specs.Recovery.{Recovers};
 
 pub fn sn_stands_for_one_count()
     ensures { λ _. ⌜ One-count ⌝ }
@@ -35,6 +36,10 @@ pub fn draft_writes_its_entries()
 /// Every lawful series of calls from a new link delivers.
 pub fn lawful_series_deliver()
     ensures { λ _. ⌜ Delivery ⌝ }
+{}
+
+pub fn a_lost_segment_is_recovered()
+    ensures { λ _. ⌜ Recovers ⌝ }
 {}
 
 pub fn worked_examples()

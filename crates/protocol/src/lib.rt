@@ -10,6 +10,7 @@ pub use faults::End;
 pub use faults::Fault;
 pub use faults::Layer;
 pub use faults::Refusal;
+pub use laws::a_lost_segment_is_recovered;
 pub use laws::draft_writes_its_entries;
 pub use laws::lawful_series_deliver;
 pub use laws::pdcp_header_round_trip;

@@ -6,9 +6,9 @@ ghost use Prim.Native.Nat.{_+_, _-_, _<_, _≤_};
 ghost use lib.ListN.{length, getD, set, take};
 ghost use Rattle.air.specs.Kept.{put-in, Took};
 ghost use Rattle.air.specs.Meaning.{Answers};
-ghost use Rattle.air.specs.Queues.{Each, raised};
+ghost use Rattle.air.specs.Queues.{Each, capacity, raised};
 ghost use Rattle.air.specs.Waits.{held-entries, waits};
-ghost use Rattle.protocol.specs.Airs.{Within, aged, after-put};
+ghost use Rattle.protocol.specs.Airs.{Within, max-pdu, age-limit, aged, after-put};
 ghost use Rattle.protocol.specs.Bytes.{put};
 ghost use Rattle.std.specs.Options.{mapped};
 ghost use Rattle.std.specs.shelf.Lists.{removed};
@@ -85,7 +85,7 @@ impl Queue {
     /// Loses what would now reach the age limit, which only the oldest can.
     fn expire(&mut self)
         ensures after { λ _. ⌜ aged (waits (now (self .exit))) ≡ aged (waits (now (self .entry))) ⌝ }
-        ensures young { λ _. ⌜ Each (λ e. e .age + 1 < 64) (held-entries (now (self .exit))) ⌝ }
+        ensures young { λ _. ⌜ Each (λ e. e .age + 1 < age-limit) (held-entries (now (self .exit))) ⌝ }
     {
         if self.held > 0 && self.entries[0].age + 1 == AGE_LIMIT {
             self.remove(0);
@@ -104,18 +104,17 @@ impl Queue {
     }
 
     fn push(&mut self, pdu: &[u8])
-        requires room { ⌜ now self .held < 8 ⌝ }
-        requires carried { ⌜ (1 ≤ length (now pdu)) × (length (now pdu) ≤ 520) ⌝ }
+        requires room { ⌜ now self .held < capacity ⌝ }
+        requires carried { ⌜ (1 ≤ length (now pdu)) × (length (now pdu) ≤ max-pdu) ⌝ }
         requires old { ⌜ Each (λ e. 1 ≤ e .age) (held-entries (now self)) ⌝ }
         ensures { λ _. ⌜ waits (now (self .exit)) ≡ waits (now (self .entry)) ++ record { pdu = now (pdu .entry); age = 0 } ∷ [] ⌝ }
     {
         let held = self.held;
         let place = self.entries[held].place;
         write_at(&mut self.store, place, pdu);
-        let length = pdu.len();
         self.entries[held] = Entry {
             place,
-            length,
+            length: pdu.len(),
             age: 0,
         };
         self.held += 1;

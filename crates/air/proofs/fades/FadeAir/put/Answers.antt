@@ -1,35 +1,25 @@
-use mathlib.Core.Path.{refl, sym, subst}
+use mathlib.Core.Bool.{true, false}
+use mathlib.Core.Path.{_≡_, refl, sym}
+use borrow.Author.Needs.{needs}
 use Rattle.air.proofs.Masks.{lost, passed, counted}
 use Rattle.air.proofs.fades.FadeAir.put.Needs as need
+use Rattle.air.specs.Fading.{passes}
 use Rattle.protocol.proofs.Strikes.{within-trans, skip-within-put}
-use Rattle.std.specs.Orderings.{When}
+use Rattle.protocol.specs.Airs.{Within, aged, after-put}
 
 pub returns-then-lost : need.returns-then-lost
 returns-then-lost g c =
     let f = c .args .self .now in
     let pdu = c .args .pdu .now in
     let good = sym (c .if-not-carries .ensures tt) in
-    let below = c .skip-then-lost .last .self in
-    record {
-      meaning = within-trans (c .skip-then-lost .ensures .meaning) (skip-within-put pdu (g .A·Air .waiting (f .below)));
-      exact = (
-        subst (λ b. When b (g .A·Air .puts (f .below) pdu below) (g .A·Air .skips (f .below) below)) (sym (lost (f .mask) (f .number) pdu good (c .if-lost .taken))) (c .skip-then-lost .ensures .exact),
-        refl,
-        counted (f .mask) (f .number) pdu good,
-      );
-    }
+    let no : passes (f .mask) (f .number) pdu ≡ false = lost (f .mask) (f .number) pdu good (c .if-lost .taken) in
+    let fewer : Within (aged (g .A·Air .waiting (f .below))) (after-put pdu (g .A·Air .waiting (f .below))) = skip-within-put pdu (g .A·Air .waiting (f .below)) in
+    record { meaning = search (needs, within-trans); exact = (rw no (search needs), refl, counted (f .mask) (f .number) pdu good) }
 
 pub returns-else-lost : need.returns-else-lost
 returns-else-lost g c =
     let f = c .args .self .now in
     let pdu = c .args .pdu .now in
     let good = sym (c .if-not-carries .ensures tt) in
-    let below = c .put .last .self in
-    record {
-      meaning = c .put .ensures .meaning;
-      exact = (
-        subst (λ b. When b (g .A·Air .puts (f .below) pdu below) (g .A·Air .skips (f .below) below)) (sym (passed (f .mask) (f .number) pdu good (c .if-lost .left))) (c .put .ensures .exact),
-        refl,
-        counted (f .mask) (f .number) pdu good,
-      );
-    }
+    let yes : passes (f .mask) (f .number) pdu ≡ true = passed (f .mask) (f .number) pdu good (c .if-lost .left) in
+    record { meaning = search needs; exact = (rw yes (search needs), refl, counted (f .mask) (f .number) pdu good) }

@@ -1,5 +1,3 @@
-use mathlib.Core.Path.{sym}
-use Prim.Native.Nat.{_≤_}
 use native.Mathlib.Omega.{arith}
 use Rattle.air.proofs.Lets.{took-none, took-answers}
 use Rattle.air.proofs.pools.PoolAir.take.Needs as need

@@ -6,7 +6,7 @@ use lib.ListN.{getD, take}
 use mathlib.Core.List.{[]}
 use Rattle.air.proofs.Fronts.{length-held, length-waits, held-at, nth-waits}
 use Rattle.air.proofs.queues.Queue.get.Needs as need
-use Rattle.air.specs.Queues.{no-entry, waiting-at}
+use Rattle.air.specs.Queues.{no-entry}
 use Rattle.air.specs.Waits.{waits}
 use Rattle.protocol.specs.Airs.{Waiting}
 use Rattle.std.proofs.shelf.Maps.{nth-past}

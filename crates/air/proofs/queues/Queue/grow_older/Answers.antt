@@ -1,15 +1,14 @@
-use mathlib.Core.List.{List, _++_, map}
+use mathlib.Core.List.{_++_, map}
 use mathlib.Core.Path.{_≡_, sym, subst, _∙_, ap}
 use Prim.Native.Nat.{_+_, _-_, _<_, _≤_}
 use native.Mathlib.Omega.{arith}
-use lib.ListN.{length, take, drop}
-use Rattle.air.proofs.Fronts.{Parts, length-held, take-raised, parts-raised}
+use lib.ListN.{take, drop}
+use Rattle.air.proofs.Fronts.{Parts, take-raised, parts-raised}
 use Rattle.air.proofs.Lets.{within-aged}
 use Rattle.air.proofs.Notes.{each-raised, aged-raised}
 use Rattle.air.proofs.queues.Queue.grow_older.Needs as need
 use Rattle.air.specs.Queues.{Each, raised, waiting-at}
 use Rattle.air.specs.Waits.{held-entries, waits}
-use Rattle.air.specs.declared.entries.Entry.{Entry}
 use Rattle.protocol.specs.Airs.{age-limit, aged}
 
 pub raise-requires : need.raise-requires

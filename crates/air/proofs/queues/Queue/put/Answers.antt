@@ -1,9 +1,7 @@
-use mathlib.Core.Bool.{true, false, cond}
-use mathlib.Core.List.{List, [], _∷_, _++_}
+use mathlib.Core.List.{[], _∷_, _++_}
 use mathlib.Core.Path.{_≡_, sym, subst, _∙_, ap}
 use Prim.Native.Nat.{_≤_, _<_}
 use native.Mathlib.Omega.{arith}
-use lib.ListN.{length}
 use Rattle.air.proofs.Fronts.{length-held, length-waits}
 use Rattle.air.proofs.Lets.{within-put}
 use Rattle.air.proofs.Notes.{each-removed}
@@ -14,7 +12,7 @@ use Rattle.air.specs.Kept.{newest, put-in}
 use Rattle.air.specs.Queues.{Each}
 use Rattle.air.specs.Waits.{held-entries, waits}
 use Rattle.air.specs.declared.queues.Queue.{Queue}
-use Rattle.protocol.specs.Airs.{Waiting, aged, carries}
+use Rattle.protocol.specs.Airs.{Waiting}
 use Rattle.protocol.proofs.Strikes.{after-put-no, after-put-yes}
 use Rattle.std.proofs.shelf.Tests.{leb-true, and-parts}
 

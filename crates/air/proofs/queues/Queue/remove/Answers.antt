@@ -2,7 +2,7 @@ use mathlib.Core.Path.{_≡_, refl, sym, subst, _∙_, ap}
 use Prim.Native.Nat.{_-_, _≤_, _<_}
 use native.Mathlib.Omega.{arith}
 use borrow.Rule.Slice.PartMut.{putMid}
-use lib.ListN.{length, take, drop}
+use lib.ListN.{length, take}
 use mathlib.Core.List.{map}
 use Rattle.air.proofs.Notes.{each-removed, pairs-removed, map-removed, length-rotated, each-rotated, pairs-rotated, take-rotated}
 use Rattle.air.proofs.queues.Queue.remove.Needs as need

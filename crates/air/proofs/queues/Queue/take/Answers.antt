@@ -1,5 +1,5 @@
-use mathlib.Core.Bool.{Bool, true, false}
-use mathlib.Core.Path.{_≡_, refl, sym, _∙_, ap}
+use mathlib.Core.Bool.{true}
+use mathlib.Core.Path.{_≡_, sym, _∙_}
 use Prim.Native.Nat.{_<_}
 use native.Mathlib.Omega.{arith}
 use lib.Dec.{leb}
@@ -9,8 +9,7 @@ use Rattle.air.proofs.Lets.{sound-waits, nth-within, all-nth, took-none, took-
 use Rattle.air.proofs.queues.Queue.take.Needs as need
 use Rattle.air.specs.Kept.{left-by}
 use Rattle.air.specs.Waits.{waits}
-use Rattle.protocol.specs.Airs.{Waiting, carries, max-draw, max-pdu, age-limit, laid, takes}
-use Rattle.protocol.specs.Bytes.{Bytes}
+use Rattle.protocol.specs.Airs.{Waiting, carries, max-draw, max-pdu, age-limit}
 use Rattle.std.proofs.shelf.Tests.{and-parts, leb-true, cond-true, cond-false}
 use Rattle.std.specs.shelf.Lists.{removed}
 use Rattle.std.specs.declared.option.Option.the-variants.{Some, None}

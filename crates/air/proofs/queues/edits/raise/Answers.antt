@@ -1,8 +1,8 @@
-use mathlib.Core.Path.{_≡_, refl, sym, _∙_, ap}
+use mathlib.Core.Path.{_∙_, ap}
 use mathlib.Core.List.{map, _++_}
 use Prim.Native.Nat.{_<_}
 use native.Mathlib.Omega.{arith}
-use lib.ListN.{length, take, drop, getD}
+use lib.ListN.{length, drop, getD}
 use Rattle.air.proofs.queues.edits.raise.Needs as need
 use Rattle.air.specs.Queues.{raised, no-entry}
 use Rattle.std.proofs.shelf.Edits.{map-over-more}
