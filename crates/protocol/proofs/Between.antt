@@ -22,7 +22,9 @@ use Rattle.protocol.specs.Pdus.{Amd, Entry, amd, status, encode}
 use Rattle.protocol.specs.Receiving as far
 use Rattle.protocol.specs.Runs.{State, new-state}
 use Rattle.protocol.specs.Sending as near
+use Rattle.protocol.specs.Writing.{pdu-fault}
 use Rattle.std.proofs.shelf.Tests.{both-ways, cases-lt, ltb-true}
+use Rattle.std.specs.declared.option.Option.the-variants.{None}
 use Rattle.std.specs.shelf.Lists.{All}
 
 -- numbers that are read with a base ------------------------------------------------------------------------------------
@@ -44,6 +46,7 @@ pub record Data (acc : List Bytes) (top : ℕ) (w : Waiting) : Type 0 where
   pub part : Amd
   pub pdu-is : w .pdu ≡ encode (amd part)
   pub true-part : Part-of (sdu acc count) count part
+  pub readable : pdu-fault (amd part) ≡ None
   pub begun : count < top
   pub young : top ≤ count + 16 + w .age
   pub recent : w .age < 64
@@ -55,6 +58,7 @@ pub record Told (f : far.Far) (most : ℕ) (w : Waiting) : Type 0 where
   pub entries : List Entry
   pub pdu-is : w .pdu ≡ encode (status (ack % 4096) entries)
   pub fit : Entries-fit entries
+  pub readable : pdu-fault (status (ack % 4096) entries) ≡ None
   pub ack-to : ack ≤ most
   pub young : most ≤ ack + 16 + 16 * w .age
   pub recent : w .age < 64

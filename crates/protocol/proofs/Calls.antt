@@ -16,14 +16,14 @@ use Rattle.protocol.proofs.NearMoved.{Reported-kept, near-reported, Ticked-kep
 use Rattle.protocol.proofs.NearSpent.{Spent-kept, near-spent}
 use Rattle.protocol.proofs.Partials.{part-fits}
 use Rattle.protocol.proofs.PdcpKept.{Held, given-sound, Handed, handed-sound, collected-sound, collected-keeps, ticked-sound, ticked-keeps}
-use Rattle.protocol.proofs.Reports.{Names, Reports, report-right, report-pdu, report-fits, unnamed-complete, named-in}
+use Rattle.protocol.proofs.Reports.{Names, Reports, report-right, report-pdu, report-fits, entries-valid, unnamed-complete, named-in}
 use Rattle.protocol.proofs.Strikes.{all-within}
 use Rattle.protocol.specs.Airs.{Waiting, Within, Waits, Lets-out, takes, Takes}
 use Rattle.protocol.specs.Bytes.{Bytes}
 use Rattle.protocol.specs.Laws.{Segment-fits}
 use Rattle.protocol.specs.Links as link
 use Rattle.protocol.specs.Pdus.{Segment, whole, first, middle, last, Amd, Pdu, amd, status, encode}
-use Rattle.protocol.specs.Reading.{decode}
+use Rattle.protocol.specs.Reading.{decode, offset-fault}
 use Rattle.protocol.specs.Receiving as far
 use Rattle.protocol.specs.Refusals.{at, unless}
 use Rattle.protocol.specs.Reordering as pdcp
@@ -36,12 +36,31 @@ use Rattle.protocol.specs.declared.faults.End.{End}
 use Rattle.protocol.specs.declared.faults.End.the-variants.{Near, Far}
 use Rattle.protocol.specs.declared.faults.Fault.{Fault}
 use Rattle.protocol.specs.declared.faults.Refusal.the-variants.{EndClash}
-use Rattle.std.proofs.shelf.Tests.{both-ways, cases-lt, cases-bool, cond-true, cond-false, ltb-true, ltb-false, leb-true, leb-false, and-parts, not-true, not-false}
+use Rattle.std.proofs.shelf.Tests.{both-ways, cases-lt, cases-bool, cond-true, cond-false, ltb-true, ltb-false, le-ltb, ne-eqb, or-from}
 use Rattle.std.specs.declared.option.Option.{Option}
 use Rattle.std.specs.declared.option.Option.the-variants.{Some, None}
 use Rattle.std.specs.declared.result.Result.{Result}
 use Rattle.std.specs.declared.result.Result.the-variants.{Ok, Err}
 use Rattle.std.specs.shelf.Lists.{All}
+
+-- a segment that begins behind byte 0 has an SO that is not 0
+segment-readable : (from size sdu-length n : ℕ) → far.offset (near.segment-at from size sdu-length) + n ≤ 502
+    → offset-fault (near.segment-at from size sdu-length) n ≡ None
+segment-readable from size sdu-length n = go (eqb from 0) refl (eqb size sdu-length) (eqb (from + size) sdu-length)
+  where
+    go : (start : Bool) → eqb from 0 ≡ start → (all end : Bool)
+        → let segment = cond start (cond all whole first) (cond end (last from) (middle from)) in
+        far.offset segment + n ≤ 502 → offset-fault segment n ≡ None
+    go true e true end h = cond-false _ _ _ (le-ltb 502 n (omega (arith, h)))
+    go true e false end h = cond-false _ _ _ (le-ltb 502 n (omega (arith, h)))
+    go false e all true h = cond-false _ _ _ (or-from (eqb from 0) (ltb 502 (from + n)) e (le-ltb 502 (from + n) h))
+    go false e all false h = cond-false _ _ _ (or-from (eqb from 0) (ltb 502 (from + n)) e (le-ltb 502 (from + n) h))
+
+run-readable : (s : Settings) (acc : List Bytes) (run : near.Run) (n : near.Near) → Part-of (sdu acc (run .count)) (run .count) (near.amd-of-run s run n)
+    → length (sdu acc (run .count)) ≤ 502 → pdu-fault (amd (near.amd-of-run s run n)) ≡ None
+run-readable s acc run n part short =
+    cond-false _ _ _ (ne-eqb (length (near.amd-of-run s run n .payload)) 0 (λ none. omega (arith, part .some, none)))
+    ∙ segment-readable (run .from) (run .size) (length (n .sdu (run .count) .bytes)) (length (near.amd-of-run s run n .payload)) (omega (arith, part .inside, short))
 
 -- the state after a call
 abbrev pub state : link.Link → List Waiting → List Waiting → State
@@ -107,6 +126,7 @@ module _ (acc got : List Bytes) (ran : Bool) (r : State) (sound : Link-sound acc
             true-part =
                 subst (λ bytes. Part-of bytes (d .count) (d .part))
                 (sym (sdu-given acc p (d .count) (omega (arith, d .begun, sound .near-sound .begun, sound .near-sound .next)))) (d .true-part);
+            readable = d .readable;
             begun = omega (arith, d .begun, top-same);
             young = omega (arith, d .young, top-same);
             recent = d .recent;
@@ -146,6 +166,7 @@ module _ (acc got : List Bytes) (ran : Bool) (r : State) (sound : Link-sound acc
             part = d .part;
             pdu-is = d .pdu-is;
             true-part = d .true-part;
+            readable = d .readable;
             begun = omega (arith, d .begun, near-spent s acc (r .link .near) g run (sound .near-sound) big served .top-grows);
             young = omega (arith, d .young, near-spent s acc (r .link .near) g run (sound .near-sound) big served .top-by-one);
             recent = recent;
@@ -159,6 +180,7 @@ module _ (acc got : List Bytes) (ran : Bool) (r : State) (sound : Link-sound acc
             part = near.amd-of-run s run (r .link .near);
             pdu-is = refl;
             true-part = k .part;
+            readable = run-readable s acc run (r .link .near) (k .part) (sdu-short acc (run .count) (sound .near-sound .packets) (omega (arith, k .high, sound .near-sound .next)));
             begun = k .begun;
             young = omega (arith, k .sound .begun, k .sound .window, k .same-first, k .low);
             recent = omega arith;
@@ -203,6 +225,7 @@ module _ (acc got : List Bytes) (ran : Bool) (r : State) (sound : Link-sound acc
             entries = t .entries;
             pdu-is = t .pdu-is;
             fit = t .fit;
+            readable = t .readable;
             ack-to = omega (arith, t .ack-to);
             young = omega (arith, t .young, close);
             recent = recent;
@@ -216,6 +239,7 @@ module _ (acc got : List Bytes) (ran : Bool) (r : State) (sound : Link-sound acc
             entries = far.report (r .link .far) g .entries;
             pdu-is = refl;
             fit = report-fits acc (r .link .far) g (sound .near-sound .packets) (sound .far-sound) .1;
+            readable = entries-valid (r .link .far .RX-Next) (far.report (r .link .far) g .ack) 3 (far.report (r .link .far) g .entries) (omega (arith, right .ack-to, sound .far-sound .status-to, sound .far-sound .window)) (right .true-entries);
             ack-to = omega arith;
             young = omega (arith, right .ack-from, sound .most-to, sound .far-sound .window);
             recent = omega arith;
@@ -252,6 +276,7 @@ module _ (acc got : List Bytes) (ran : Bool) (r : State) (sound : Link-sound acc
         entries = t .entries;
         pdu-is = t .pdu-is;
         fit = t .fit;
+        readable = t .readable;
         ack-to = t .ack-to;
         young = t .young;
         recent = t .recent;
@@ -427,14 +452,13 @@ module _ (acc got : List Bytes) (ran : Bool) (r : State) (sound : Link-sound acc
         back = all-map (Told (r .link .far) (sound .most)) (Told (far.discarded a (r .link .far)) (sound .most)) (r .back) (told-same (sound .most) (r .link .far) (far.discarded a (r .link .far)) (λ x e. e)) (sound .back);
       }
 
-  pub read-far : (s : Settings) (buffer : Bytes) (w : Waiting) → Data acc (near.top (r .link .near)) w
-      → Link-sound acc got ran (state (link.reads s Far (w .pdu) buffer (r .link) .link) (r .forward) (r .back))
-  read-far s buffer w d =
-      subst (λ a. Link-sound acc got ran (state (link.reads-far s a buffer (r .link) .link) (r .forward) (r .back))) (sym read) (by-fault (pdu-fault (amd (d .part))))
+  -- the far end reads the PDU as it was written, and what it does with it
+  pub data-read : (w : Waiting) (d : Data acc (near.top (r .link .near)) w) → decode Far (w .pdu) ≡ unless (pdu-fault (amd (d .part))) (Ok (amd (d .part)))
+  data-read w d =
+      ap (decode Far) (d .pdu-is)
+      ∙ written-reads-back (amd (d .part))
+      (omega (arith, d .true-part .number), so-fits (d .part .segment) (omega (arith, d .true-part .inside, sdu-short acc (d .count) (sound .near-sound .packets) small)))
     where
-      a : Amd
-      a = d .part
-
       small : d .count < length acc
       small = omega (arith, d .begun, sound .near-sound .begun, sound .near-sound .next)
 
@@ -444,23 +468,21 @@ module _ (acc got : List Bytes) (ran : Bool) (r : State) (sound : Link-sound acc
       so-fits (middle so) h = omega (arith, h)
       so-fits (last so) h = omega (arith, h)
 
-      read : decode Far (w .pdu) ≡ unless (pdu-fault (amd (d .part))) (Ok (amd (d .part)))
-      read =
-          ap (decode Far) (d .pdu-is)
-          ∙ written-reads-back (amd (d .part))
-          (omega (arith, d .true-part .number), so-fits (d .part .segment) (omega (arith, d .true-part .inside, sdu-short acc (d .count) (sound .near-sound .packets) small)))
+  pub data-arrives : (s : Settings) (w : Waiting) (d : Data acc (near.top (r .link .near)) w)
+      → let x = far.rx-count (r .link .far) (d .part .sn) in
+      (far.discards (r .link .far) x (d .part) ≡ true)
+      ⊎ ((x ≡ d .count) × ((far.clashes (r .link .far .sdu x) (d .part) || leb near.packet-limit x) ≡ false)
+      × Taken acc x (d .part) (r .link .far) (far.taken s x (d .part) (r .link .far)))
+  data-arrives s w d =
+      far-arrives s acc (r .link .far) (d .count) (d .part) (sound .near-sound .packets) (sound .far-sound)
+      (omega (arith, d .begun, sound .near-sound .begun, sound .near-sound .next)) (d .true-part)
+      (omega (arith, sound .far-sound .status-from, sound .far-sound .status-to, sound .seen, d .young, d .recent)) (omega (arith, d .begun, top-window sound))
 
-      x : ℕ
-      x = far.rx-count (r .link .far) (d .part .sn)
-
-      arrives : (far.discards (r .link .far) (far.rx-count (r .link .far) (d .part .sn)) (d .part) ≡ true)
-          ⊎ ((far.rx-count (r .link .far) (d .part .sn) ≡ d .count)
-          × ((far.clashes (r .link .far .sdu (far.rx-count (r .link .far) (d .part .sn))) (d .part) || leb near.packet-limit (far.rx-count (r .link .far) (d .part .sn))) ≡ false)
-          × Taken acc (far.rx-count (r .link .far) (d .part .sn)) (d .part) (r .link .far) (far.taken s (far.rx-count (r .link .far) (d .part .sn)) (d .part) (r .link .far)))
-      arrives =
-          far-arrives s acc (r .link .far) (d .count) (d .part) (sound .near-sound .packets) (sound .far-sound) small (d .true-part)
-          (omega (arith, sound .far-sound .status-from, sound .far-sound .status-to, sound .seen, d .young, d .recent)) (omega (arith, d .begun, top-window sound))
-
+  pub read-far : (s : Settings) (buffer : Bytes) (w : Waiting) → Data acc (near.top (r .link .near)) w
+      → Link-sound acc got ran (state (link.reads s Far (w .pdu) buffer (r .link) .link) (r .forward) (r .back))
+  read-far s buffer w d =
+      subst (λ a. Link-sound acc got ran (state (link.reads-far s a buffer (r .link) .link) (r .forward) (r .back))) (sym (data-read w d)) (by-fault (pdu-fault (amd (d .part))))
+    where
       by-discard : (old : Bool) → far.discards (r .link .far) (far.rx-count (r .link .far) (d .part .sn)) (d .part) ≡ old
           → Link-sound acc got ran
           (state
@@ -476,7 +498,7 @@ module _ (acc got : List Bytes) (ran : Bool) (r : State) (sound : Link-sound acc
           (λ new.
           subst (λ (o : link.Outcome). Link-sound acc got ran (state (o .link) (r .forward) (r .back))) (sym (cond-false _ _ _ (new .1)))
           (received-in s buffer (far.rx-count (r .link .far) (d .part .sn)) (d .part) (new .2) (omega (arith, new .0, d .begun)) (omega (arith, new .0, d .young, d .recent))))
-          arrives
+          (data-arrives s w d)
 
       by-fault : (fault : Option Fault) → Link-sound acc got ran (state (link.reads-far s (unless fault (Ok (amd (d .part)))) buffer (r .link) .link) (r .forward) (r .back))
       by-fault (Some fault) = sound

@@ -332,7 +332,7 @@ moved : (acc got : List Bytes) (ran : Bool) (l : link.Link) (forward back forwar
 moved acc got ran l forward back forward′ back′ f b sound =
     subst (λ xs. Link-sound acc got ran (state l xs back′)) (sym f) (subst (λ ys. Link-sound acc got ran (state l forward ys)) (sym b) sound)
 
-event-keeps : (acc got : List Bytes) (ran : Bool) (s : Settings) (r : State) (e : Event) (call : link.Call) → e .call ≡ call → Link-sound acc got ran r
+pub event-keeps : (acc got : List Bytes) (ran : Bool) (s : Settings) (r : State) (e : Event) (call : link.Call) → e .call ≡ call → Link-sound acc got ran r
     → Airs-keep s r e call → Keeps acc got ran r call (link.does s call (e .out) (r .link)) (e .forward) (e .back)
 event-keeps acc got ran s r e (link.give p) is sound keep =
     moved _ _ _ (link.gives p (r .link) .link) (r .forward) (r .back) (e .forward) (e .back) (keep .1) (keep .2) (give-keeps acc got ran r sound p)

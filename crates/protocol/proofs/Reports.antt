@@ -293,7 +293,7 @@ report-fits acc f grant packets h =
 ahead-by : (y ack : ℕ) → y < ack → ack ≤ y + 16 → ahead sn-modulus (y % sn-modulus) (ack % sn-modulus) ≡ ack - y
 ahead-by y ack l h = omega (arith, l, h)
 
-entries-valid : (low high place : ℕ) (es : List Entry) → high ≤ low + 16 → All (Entry-between low high) es
+pub entries-valid : (low high place : ℕ) (es : List Entry) → high ≤ low + 16 → All (Entry-between low high) es
     → entries-fault (high % sn-modulus) place es ≡ None
 entries-valid low high place [] w all = refl
 entries-valid low high place (e ∷ es) w all =

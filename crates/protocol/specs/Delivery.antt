@@ -7,9 +7,10 @@ use Prim.Native.Nat.{ℕ, _<_}
 use lib.ListN.{length, take, getD}
 use Rattle.protocol.specs.Airs.{Within}
 use Rattle.protocol.specs.Bytes.{Bytes}
-use Rattle.protocol.specs.Links.{Link}
-use Rattle.protocol.specs.Runs.{Event, new-state, Lawful, end-of, accepted-in, collected-in, ran-out, due-packets}
+use Rattle.protocol.specs.Links.{Link, Call, give, spend, arrive, tick, collect, read, Answer, accepted as accepted-as, sent, arrived, ticked, collected as collected-size, nothing-due, refused}
+use Rattle.protocol.specs.Runs.{Event, State, outcome, next, new-state, Lawful, end-of, accepted-in, collected-in, ran-out, due-packets}
 use Rattle.protocol.specs.Settings.{Settings}
+use Rattle.protocol.specs.declared.faults.Refusal.the-variants.{ShortBuffer, PacketDue}
 
 -- the packets that a series from a new link accepted, and those that it collected, in the order of the calls
 abbrev pub accepted : Settings → List Event → List Bytes
@@ -63,3 +64,31 @@ abbrev pub Delivery : Type 0
 Delivery =
     ((s : Settings) (es : List Event) → Lawful s new-state es → Delivers s es)
     × ((s : Settings) (es : List Event) (t : Settings) (fs : List Event) → Lawful s new-state es → Lawful t new-state fs → Alike s es t fs)
+
+-- what arrives is read --------------------------------------------------------------------------------------------------
+
+-- an arrival is refused for its buffer or for a packet that is due, and never for what the PDU says
+abbrev pub Reads-well : Answer → Type 0
+Reads-well (accepted-as count) = Unit {0}
+Reads-well (sent size) = Unit {0}
+Reads-well (arrived arrival number) = Unit {0}
+Reads-well ticked = Unit {0}
+Reads-well (collected-size size) = Unit {0}
+Reads-well nothing-due = Unit {0}
+Reads-well (refused fault) = (fault .refusal ≡ ShortBuffer) ⊎ (fault .refusal ≡ PacketDue)
+
+abbrev pub Arrives-well : Call → Answer → Type 0
+Arrives-well (give packet) answer = Unit {0}
+Arrives-well (spend end size buffer) answer = Unit {0}
+Arrives-well (arrive end draw buffer) answer = Reads-well answer
+Arrives-well (tick end) answer = Unit {0}
+Arrives-well (collect buffer) answer = Unit {0}
+Arrives-well (read end bytes) answer = Unit {0}
+
+abbrev pub All-arrive-well : Settings → State → List Event → Type 0
+All-arrive-well s r [] = Unit {0}
+All-arrive-well s r (e ∷ es) = Arrives-well (e .call) (outcome s r e .answer) × All-arrive-well s (next s r e) es
+
+-- What either end put, the other reads: no PDU of a lawful series is refused for its content.
+abbrev pub Nothing-refused : Type 0
+Nothing-refused = (s : Settings) (es : List Event) → Lawful s new-state es → All-arrive-well s new-state es

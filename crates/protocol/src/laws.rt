@@ -1,6 +1,6 @@
 //! The laws of numbers and formats, each the contract of a function that does nothing else.
 
-ghost use Rattle.protocol.specs.Delivery.{Delivery};
+ghost use Rattle.protocol.specs.Delivery.{Delivery, Nothing-refused};
 ghost use Rattle.protocol.specs.Examples.{Worked-examples, Worked-series};
 ghost use Rattle.protocol.specs.Laws.{One-count, One-pdcp-count, Written-reads-back, Read-writes-back, Reserved-not-read, Pdcp-round-trip, Draft-writes};
 ghost use Rattle.protocol.specs.Recovery.{Recovers};
@@ -36,6 +36,11 @@ pub fn draft_writes_its_entries()
 /// Every lawful series of calls from a new link delivers.
 pub fn lawful_series_deliver()
     ensures { λ _. ⌜ Delivery ⌝ }
+{}
+
+/// What either end put is never refused for its content.
+pub fn arrivals_are_read()
+    ensures { λ _. ⌜ Nothing-refused ⌝ }
 {}
 
 pub fn a_lost_segment_is_recovered()
