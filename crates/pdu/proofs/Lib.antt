@@ -1,3 +1,2 @@
 mod Listing
-mod Spelling
 mod Taken

@@ -1,3 +1,2 @@
 pub mod Compared
-pub mod Digits
 pub mod Shown

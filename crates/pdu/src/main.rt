@@ -4,7 +4,6 @@
 
 mod contents;
 mod differences;
-mod hex;
 mod names;
 mod requests;
 mod show;

@@ -1,9 +1,8 @@
 //! The lines of the input.
 
-use crate::hex::decode;
-use std::alloc::AllocError;
+use hex::BadHex;
+use hex::decode;
 use std::alloc::Global;
-use std::alloc::Refused;
 use wire::End;
 
 /// What a line asks for: the bytes of a PDU, and the end that is to read them.
@@ -24,15 +23,13 @@ pub(crate) enum BadLine {
     NoMemory,
 }
 
-pub(crate) impl From<AllocError> for BadLine as BadLineFromAlloc {
-    fn from(_: AllocError) -> BadLine {
-        BadLine::NoMemory
-    }
-}
-
-pub(crate) impl<T: Drop> From<Refused<T>> for BadLine as BadLineFromRefused {
-    fn from(_: Refused<T>) -> BadLine {
-        BadLine::NoMemory
+pub(crate) impl From<BadHex> for BadLine as BadLineFromHex {
+    fn from(bad: BadHex) -> BadLine {
+        match bad {
+            BadHex::OddDigits => BadLine::OddDigits,
+            BadHex::BadDigit => BadLine::BadDigit,
+            BadHex::NoMemory => BadLine::NoMemory,
+        }
     }
 }
 

@@ -12,7 +12,7 @@ use air::PoolAir;
 
 /// An air of each kind, of which the script uses one.
 #[derive(Drop)]
-pub struct Carrier {
+pub(crate) struct Carrier {
     pipe: Fade<Pipe>,
     pool: Fade<Pool>,
     pooled: bool,
@@ -27,7 +27,7 @@ fn take_from<A: Air>(air: &mut A, draw: u16, buffer: &mut [u8]) -> Option<usize>
 
 impl Carrier {
     /// New airs under this mask.
-    pub fn new(pooled: bool, mask: u64) -> Self {
+    pub(crate) fn new(pooled: bool, mask: u64) -> Self {
         Carrier {
             pipe: Fade::new(Pipe::new(), mask),
             pool: Fade::new(Pool::new(), mask),
@@ -35,7 +35,7 @@ impl Carrier {
         }
     }
 
-    pub fn put(&mut self, pdu: &[u8]) {
+    pub(crate) fn put(&mut self, pdu: &[u8]) {
         if self.pooled {
             self.pool.put(pdu)
         } else {
@@ -43,7 +43,7 @@ impl Carrier {
         }
     }
 
-    pub fn skip(&mut self) {
+    pub(crate) fn skip(&mut self) {
         if self.pooled {
             self.pool.skip()
         } else {
@@ -51,7 +51,7 @@ impl Carrier {
         }
     }
 
-    pub fn take(&mut self, draw: u16, buffer: &mut [u8]) -> Option<usize>
+    pub(crate) fn take(&mut self, draw: u16, buffer: &mut [u8]) -> Option<usize>
         ensures { λ r. ⌜ Cases r (Unit {0}) (λ n. n ≤ 520) ⌝ }
     {
         if self.pooled {
@@ -62,7 +62,7 @@ impl Carrier {
     }
 
     /// The k-th PDU that waits, oldest first, and its age.
-    pub fn get(&self, k: usize) -> Option<(&[u8], u8)> {
+    pub(crate) fn get(&self, k: usize) -> Option<(&[u8], u8)> {
         if self.pooled {
             self.pool.below().get(k)
         } else {

@@ -57,7 +57,7 @@ fn run(rt: &LibcRuntime) -> Result<(), AnyError> {
     for line in rt.lines(heap) {
         let line = line?;
         rt.println(line.as_str())?;
-        match parse(heap, line.as_str())? {
+        match parse(heap, line.as_str()) {
             Ok(command) => rt.println(obey(heap, &mut carrier, command)?)?,
             Err(fault) => rt.println(fault)?,
         }

@@ -4,7 +4,7 @@ use mathlib.Core.Path.{_≡_, sym, subst}
 use Prim.Native.Nat.{ℕ, _+_, _*_, _<_}
 use borrow.Author.Count.{below-more}
 use lib.ListN.{length, getD}
-use Rattle.pdu.specs.Digits.{Byte, Spelt}
+use Rattle.hex.specs.Digits.{Byte, Spelt}
 
 pub spelt-more : (digits old new : List ℕ) (n : ℕ) → length old ≡ n → length new ≡ n + 1
     → ((k : ℕ) → k < n → getD new k 0 ≡ getD old k 0)

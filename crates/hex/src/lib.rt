@@ -3,15 +3,34 @@
 ghost use lib.ListN.{length};
 ghost use mathlib.Core.Path.{_≡_};
 ghost use Prim.Native.Nat.{ℕ, _*_, _<_};
-ghost use Rattle.pdu.specs.Digits.{Digit, Byte, Spelt};
+ghost use Rattle.hex.specs.Digits.{Digit, Byte, Spelt};
 ghost use Rattle.std.specs.Of.Vec.{vec-len, vec-items};
 ghost use Rattle.std.specs.Options.{Cases};
 ghost use Rattle.std.specs.Slices.{found};
 ghost use Rattle.std.specs.Vec.{made};
-use crate::requests::BadLine;
-use crate::requests::BadLineFromAlloc;
-use crate::requests::BadLineFromRefused;
+use std::alloc::AllocError;
 use std::alloc::Global;
+use std::alloc::Refused;
+
+/// Why digits give no bytes.
+#[derive(Drop)]
+pub enum BadHex {
+    OddDigits,
+    BadDigit,
+    NoMemory,
+}
+
+pub impl From<AllocError> for BadHex as BadHexFromAlloc {
+    fn from(_: AllocError) -> BadHex {
+        BadHex::NoMemory
+    }
+}
+
+pub impl<T: Drop> From<Refused<T>> for BadHex as BadHexFromRefused {
+    fn from(_: Refused<T>) -> BadHex {
+        BadHex::NoMemory
+    }
+}
 
 /// A digit's value; none if it is no hexadecimal digit.
 fn digit_value(digit: u8) -> Option<u8>
@@ -33,18 +52,18 @@ fn byte_of(high: u8, low: u8) -> Option<u8>
 }
 
 /// The bytes of a text of digits, two for each.
-pub(crate) fn decode(heap: Global, digits: &[u8]) -> Result<Vec<u8>, BadLine>
+pub fn decode(heap: Global, digits: &[u8]) -> Result<Vec<u8>, BadHex>
     ensures { λ r. ⌜ made r (λ v. (2 * vec-len v ≡ length (now (digits .entry))) × Spelt (now (digits .entry)) (vec-items v)) ⌝ }
 {
     let mut bytes = Vec::new(heap);
     for i in 0..digits.len() / 2 {
         match byte_of(digits[2 * i], digits[2 * i + 1]) {
             Some(byte) => bytes.push(byte)?,
-            None => return Err(BadLine::BadDigit),
+            None => return Err(BadHex::BadDigit),
         }
     }
     if digits.len() % 2 == 1 {
-        return Err(BadLine::OddDigits);
+        return Err(BadHex::OddDigits);
     }
     Ok(bytes)
 }

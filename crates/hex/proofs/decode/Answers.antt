@@ -2,9 +2,9 @@ use mathlib.Core.Path.{_≡_, refl, sym, _∙_, ap, subst}
 use native.Mathlib.Omega.{arith}
 use Prim.Native.Nat.{_+_, _*_}
 use lib.ListN.{length, getD}
-use Rattle.pdu.proofs.Spelling.{spelt-more}
-use Rattle.pdu.proofs.hex.decode.Needs as need
-use Rattle.pdu.specs.Digits.{Byte}
+use Rattle.hex.proofs.Spelling.{spelt-more}
+use Rattle.hex.proofs.decode.Needs as need
+use Rattle.hex.specs.Digits.{Byte}
 use Rattle.std.specs.Of.Vec.{vec-len, vec-items}
 
 pub loop-i-again : need.loop-i-again
