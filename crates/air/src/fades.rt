@@ -3,6 +3,7 @@
 ghost use mathlib.Core.Path.{_≡_};
 ghost use Prim.Native.Nat.{_<_};
 ghost use Rattle.air.specs.Fading.{passes, number-after};
+ghost use Rattle.protocol.specs.Airs.{Within, aged, after-put};
 ghost use Rattle.std.specs.Orderings.{When};
 use crate::airs::Air;
 use crate::airs::carries;
@@ -53,7 +54,9 @@ pub impl<A: Air> Air for Fade<A> as FadeAir {
     ghost waiting = { λ f. A·Air .waiting (f .below) };
 
     ghost puts = { λ f pdu f′.
-        When (passes (f .mask) (f .number) pdu) (A·Air .puts (f .below) pdu (f′ .below)) (A·Air .skips (f .below) (f′ .below))
+        When (passes (f .mask) (f .number) pdu)
+        (A·Air .puts (f .below) pdu (f′ .below) × Within (A·Air .waiting (f′ .below)) (after-put pdu (A·Air .waiting (f .below))))
+        (A·Air .skips (f .below) (f′ .below) × Within (A·Air .waiting (f′ .below)) (aged (A·Air .waiting (f .below))))
         × (f′ .mask ≡ f .mask) × (f′ .number ≡ number-after pdu (f .number)) };
 
     ghost skips = { λ f f′. A·Air .skips (f .below) (f′ .below) × (f′ .mask ≡ f .mask) × (f′ .number ≡ f .number) };

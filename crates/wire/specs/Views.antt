@@ -17,6 +17,7 @@ use Rattle.std.specs.declared.result.Result.{Result}
 use Rattle.std.specs.declared.result.Result.the-variants.{Ok, Err}
 use Rattle.wire.specs.declared.entries.Found.{Found}
 use Rattle.wire.specs.declared.counts.Count.{Count}
+use Rattle.wire.specs.declared.grants.Grant.{Grant}
 use Rattle.wire.specs.declared.numbers.Sn.{Sn}
 use Rattle.wire.specs.declared.pdus.Entries.{Entries}
 use Rattle.wire.specs.declared.pdus.Entry.{Entry}
@@ -42,6 +43,11 @@ held count = cond (ltb count (2 ^ 32)) (Some count) None
 abbrev pub held-if : Option ℕ → Option ℕ
 held-if None = None
 held-if (Some count) = held count
+
+-- the size of a grant that was opened
+abbrev pub granted : Result Grant Fault → Result ℕ Fault
+granted (Ok grant) = Ok (grant .size)
+granted (Err fault) = Err fault
 
 abbrev pub missing-of : Missing → protocol.Missing
 missing-of Every = protocol.every

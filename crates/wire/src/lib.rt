@@ -1,10 +1,12 @@
-//! PDUs as bytes: sequence numbers, a reader of received PDUs, and writers into lent buffers.
+//! PDUs as bytes: sequence numbers, a reader of received PDUs, and writers into lent buffers; and the grants
+//! that let an end send one.
 
 mod bits;
 mod counts;
 mod drafting;
 mod drafts;
 mod entries;
+mod grants;
 mod numbers;
 mod pdus;
 mod reading;
@@ -18,6 +20,7 @@ pub use counts::RlcCount;
 pub use drafting::NotClosed;
 pub use drafts::Closed;
 pub use drafts::Draft;
+pub use grants::Grant;
 pub use numbers::Sn;
 pub use pdus::Entries;
 pub use pdus::Entry;
