@@ -13,11 +13,11 @@ use Rattle.protocol.specs.Receiving as far
 use Rattle.protocol.specs.Refusals.{at}
 use Rattle.protocol.specs.Reordering as pdcp
 use Rattle.protocol.specs.Sending as near
-use Rattle.protocol.specs.Settings.{Settings, between}
+use Rattle.protocol.specs.Settings.{Settings, between, in-range}
 use Rattle.protocol.specs.declared.faults.End.{End}
 use Rattle.protocol.specs.declared.faults.End.the-variants.{Near, Far}
 use Rattle.protocol.specs.declared.faults.Fault.{Fault}
-use Rattle.protocol.specs.declared.faults.Refusal.the-variants.{LinkFailed, PacketLength, WindowFull, PacketLimit, GrantSize, ShortBuffer, PacketDue, WrongKind, EndClash, ShortCollect}
+use Rattle.protocol.specs.declared.faults.Refusal.the-variants.{LinkFailed, PacketLength, WindowFull, PacketLimit, GrantSize, ShortBuffer, PacketDue, WrongKind, EndClash, ShortCollect, Setting}
 use Rattle.std.specs.declared.option.Option.{Option}
 use Rattle.std.specs.declared.option.Option.the-variants.{Some, None}
 use Rattle.std.specs.declared.result.Result.{Result}
@@ -30,6 +30,10 @@ pub record Link : Type 0 where
 
 abbrev pub new-link : Link
 new-link = record { near = near.new-near; far = far.new-far; pdcp = pdcp.new-pdcp }
+
+-- what asking for a new link answers: settings out of range are refused
+abbrev pub opens : Settings → Result Link Fault
+opens s = cond (in-range s) (Ok new-link) (Err (at Setting 0))
 
 -- A grant is opened with its size and spent at an end; an arrival takes one PDU from the air, with a draw; reading
 -- is of bytes that came from elsewhere. Buffers are lent.
