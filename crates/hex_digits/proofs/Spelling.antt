@@ -1,6 +1,6 @@
 -- Bytes that are read from digits, one by one.
 use Rattle.std.proofs.Common.{◌≡◌, ℕ, ◌+◌, ◌*◌, ◌<◌, List, length, get_or, sym, subst, below_more}
-use Rattle.hex.specs.Digits.{Byte, Spelt}
+use Rattle.hex_digits.specs.Digits.{Byte, Spelt}
 
 pub spelt_more : (digits old new : List ℕ) (n : ℕ) → length old ≡ n → length new ≡ n + 1
     → ((k : ℕ) → k < n → get_or new k 0 ≡ get_or old k 0)

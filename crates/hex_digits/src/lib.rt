@@ -1,7 +1,7 @@
 //! Bytes from hexadecimal digits.
 
 ghost use Rattle.std.specs.Prelude.{◌≡◌, ℕ, ◌*◌, ◌<◌, length, IfSome, IfOk, vec_len, MatchOption};
-ghost use Rattle.hex.specs.Digits.{Digit, Byte, Spelt};
+ghost use Rattle.hex_digits.specs.Digits.{Digit, Byte, Spelt};
 
 use std::alloc::{AllocError, AllocFailed, Global};
 

@@ -1,6 +1,6 @@
 //! The lines of the input.
 
-use hex::{BadHex, decode};
+use hex_digits::{BadHex, decode};
 use std::alloc::Global;
 use wire::End;
 

@@ -2,7 +2,7 @@
 
 ghost use Rattle.std.specs.Prelude.{◌<◌};
 
-use hex::{BadHex, decode};
+use hex_digits::{BadHex, decode};
 use std::alloc::{AllocError, Global};
 
 #[derive(Drop)]

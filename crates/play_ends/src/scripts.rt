@@ -1,6 +1,6 @@
 //! The lines of a script.
 
-use hex::decode;
+use hex_digits::decode;
 use std::alloc::Global;
 use timers::Settings;
 

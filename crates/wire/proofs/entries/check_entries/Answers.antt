@@ -19,6 +19,6 @@ loop-more-preserved c =
     let ack = sn_of c.args.ack_sn in
     let seen = subst (λ more. Walked ack c.args.e1 (drop 3 pdu) (length pdu) more rest c.loop-more.invalid) c.loop-more-test.true c.loop-more.invariant in
     let on = walked_on ack c.args.e1 (drop 3 pdu) (length pdu) rest c.loop-more.invalid found seen (sym c.in-Some.ensures.value) in
-    subst (λ left. Walked ack c.args.e1 (drop 3 pdu) (length pdu) found.e1 left c.first-invalid-invalid.result) (sym (take_rest rest found.size))
+    subst (λ left. Walked ack c.args.e1 (drop 3 pdu) (length pdu) found.e1 left c.first_invalid-invalid.result) (sym (take_rest rest found.size))
     (subst (λ invalid. Walked ack c.args.e1 (drop 3 pdu) (length pdu) found.e1 (drop found.size rest) invalid)
-    (sym (c.first-invalid-invalid.ensures ∙ ap (λ fine. noted c.loop-more.invalid fine (length pdu - length rest)) c.is-valid.ensures)) on)
+    (sym (c.first_invalid-invalid.ensures ∙ ap (λ fine. noted c.loop-more.invalid fine (length pdu - length rest)) c.is_valid.ensures)) on)

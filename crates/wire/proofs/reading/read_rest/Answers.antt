@@ -6,5 +6,5 @@ use Rattle.wire.proofs.reading.read_rest.Goals as goal
 pub returns-in-2 : goal.returns-in-2
 returns-in-2 c = record { value = search (rules, take_rest); places = (refl, take_rest c.args.bytes.now 4) }
 
-pub returns-in-default : goal.returns-in-default
-returns-in-default c = record { value = search (rules, take_rest); places = (refl, take_rest c.args.bytes.now 4) }
+pub returns-in_default : goal.returns-in_default
+returns-in_default c = record { value = search (rules, take_rest); places = (refl, take_rest c.args.bytes.now 4) }

@@ -6,5 +6,5 @@ use Rattle.wire.proofs.reading.read_start.Goals as goal
 pub returns-in-0 : goal.returns-in-0
 returns-in-0 c = record { value = search (rules, take_rest); places = (refl, take_rest c.args.bytes.now 2) }
 
-pub returns-in-default : goal.returns-in-default
-returns-in-default c = record { value = search (rules, take_rest); places = (refl, take_rest c.args.bytes.now 2) }
+pub returns-in_default : goal.returns-in_default
+returns-in_default c = record { value = search (rules, take_rest); places = (refl, take_rest c.args.bytes.now 2) }

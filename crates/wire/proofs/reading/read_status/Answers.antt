@@ -19,29 +19,29 @@ read_by bytes sn e1 r h es ee er =
     status_by bytes h
     ∙ ap (λ a. answered a (status (sn_field bytes) (along listing (e1_field bytes) 3 (drop 3 bytes)))) fine ∙ ap (answered r) pdu
 
-pub returns-in-err-check-entries : goal.returns-in-err-check-entries
-returns-in-err-check-entries c =
+pub returns-in_err-check_entries : goal.returns-in_err-check_entries
+returns-in_err-check_entries c =
     let bytes = c.args.bytes.now in
-    let small : byte bytes 1 < 256 = omega (arith, c.type-inv.bytes 1) in
-    let sn = c.new-ack-sn.ensures ∙ ap (λ n. n % 4096) c.word.ensures ∙ sn-word bytes small in
-    let p = err_from_is_err_and c.from-residual.result c.from-residual.ensures.1 in
+    let small : byte bytes 1 < 256 = omega (arith, c.type_inv.bytes 1) in
+    let sn = c.new-ack_sn.ensures ∙ ap (λ n. n % 4096) c.word.ensures ∙ sn-word bytes small in
+    let p = err_from_is_err_and c.from_residual.result c.from_residual.ensures.1 in
     record {
       value =
           ap read_of (p.1 ∙ ap (λ fault. Err fault) p.2)
-          ∙ sym (read_by bytes _ _ _ c.if-size-lt3.false sn c.has-bit-more.ensures c.in-err-check-entries.ensures);
+          ∙ sym (read_by bytes _ _ _ c.if-size-lt3.false sn c.has_bit-more.ensures c.in_err-check_entries.ensures);
       places = subst (Placed bytes) (sym p.1) tt;
     }
 
 pub returns : goal.returns
 returns c =
     let bytes = c.args.bytes.now in
-    let small : byte bytes 1 < 256 = omega (arith, c.type-inv.bytes 1) in
-    let sn = c.new-ack-sn.ensures ∙ ap (λ n. n % 4096) c.word.ensures ∙ sn-word bytes small in
+    let small : byte bytes 1 < 256 = omega (arith, c.type_inv.bytes 1) in
+    let sn = c.new-ack_sn.ensures ∙ ap (λ n. n % 4096) c.word.ensures ∙ sn-word bytes small in
     record {
       value =
           sym
-          (read_by bytes _ _ _ c.if-size-lt3.false sn c.has-bit-more.ensures c.in-ok-check-entries.ensures
-          ∙ ap (λ rest. Ok (status (sn_of c.new-ack-sn.result) (along listing c.has-bit-more.result 3 rest))) (sym (take_rest bytes 3))
+          (read_by bytes _ _ _ c.if-size-lt3.false sn c.has_bit-more.ensures c.in_ok-check_entries.ensures
+          ∙ ap (λ rest. Ok (status (sn_of c.new-ack_sn.result) (along listing c.has_bit-more.result 3 rest))) (sym (take_rest bytes 3))
           );
       places = tt;
     }

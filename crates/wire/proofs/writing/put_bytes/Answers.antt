@@ -8,6 +8,6 @@ returns c =
     let bytes = c.args.bytes.now in
     let buffer = c.args.buffer.now in
     let count : at + length bytes - at ≡ length bytes = omega arith in
-    ap (λ ys. take at buffer ++ (ys ++ drop (at + length bytes - at) (drop at buffer))) c.copy-from-slice.ensures.after
+    ap (λ ys. take at buffer ++ (ys ++ drop (at + length bytes - at) (drop at buffer))) c.copy_from_slice.ensures.after
     ∙ ap (λ n. take at buffer ++ (bytes ++ drop n (drop at buffer))) count
     ∙ ap (λ rest. take at buffer ++ (bytes ++ rest)) (drop-drop (length bytes) at buffer)

@@ -11,8 +11,8 @@ returns-then-k-self c =
     let q = c.args.self.now in
     sym (slice_get_past (waits q) c.args.k (omega (arith, length_waits q, c.if-k-self.true)))
 
-pub slice-bounds-result-end : goal.slice-bounds-result-end
-slice-bounds-result-end c =
+pub slice_bounds-result-end : goal.slice_bounds-result-end
+slice_bounds-result-end c =
     let q = c.args.self.now in
     let k = c.args.k in
     let lt = c.if-k-self.false in

@@ -13,8 +13,8 @@ raise-requires c =
     let all : Each (λ e. e.age < 255) (take q.held q.entries) = λ i lt. omega (arith, c.expire.ensures.young i lt) in
     subst (λ n. Each (λ e. e.age < 255) (take n q.entries)) (omega arith) all
 
-pub invariant-of-self : goal.invariant-of-self
-invariant-of-self c =
+pub invariant_of-self : goal.invariant_of-self
+invariant_of-self c =
     let q = c.expire.new.self in
     let n = q.held - 0 in
     subst (λ es. Parts q.store (es ++ drop n q.entries) q.held) (sym c.raise.ensures) (parts_raised q n (omega arith) c.expire.ensures.young)

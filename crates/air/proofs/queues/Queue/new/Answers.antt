@@ -3,8 +3,8 @@ use Rattle.air.proofs.queues.Queue.new.Goals as goal
 use Rattle.protocol.specs.Bytes.{Bytes}
 use Rattle.std.proofs.lemmas.List.{get_or-replicate, length-replicate}
 
-pub invariant-of-result : goal.invariant-of-result
-invariant-of-result c =
+pub invariant_of-result : goal.invariant_of-result
+invariant_of-result c =
     let zeros : Bytes = replicate 520 0 in
     let all : 8 ≤ c.loop-i.i = c.loop-i-test.false in
     let own = c.loop-i.invariant.1 in (

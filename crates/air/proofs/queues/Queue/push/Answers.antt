@@ -1,8 +1,8 @@
 use Rattle.air.proofs.Pushes.{parts_pushed, waits_pushed}
 use Rattle.air.proofs.queues.Queue.push.Goals as goal
 
-pub invariant-of-self : goal.invariant-of-self
-invariant-of-self c = parts_pushed c.args.self.now c.args.pdu.now c.requires.room c.requires.carried c.write-at.new.store c.write-at.ensures c.requires.old
+pub invariant_of-self : goal.invariant_of-self
+invariant_of-self c = parts_pushed c.args.self.now c.args.pdu.now c.requires.room c.requires.carried c.write_at.new.store c.write_at.ensures c.requires.old
 
 pub returns : goal.returns
-returns c = waits_pushed c.args.self.now c.args.pdu.now c.requires.room c.requires.carried c.write-at.new.store c.write-at.ensures
+returns c = waits_pushed c.args.self.now c.args.pdu.now c.requires.room c.requires.carried c.write_at.new.store c.write_at.ensures

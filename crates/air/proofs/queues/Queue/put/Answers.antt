@@ -15,15 +15,15 @@ use Rattle.std.proofs.lemmas.Bool.{leb-true, and_parts}
 
 pub returns-then-not-carries : goal.returns-then-not-carries
 returns-then-not-carries c =
-    let q = c.grow-older.new.self in
+    let q = c.grow_older.new.self in
     let after : waits q ≡ put_in c.args.pdu.now (waits c.args.self.now) =
     sym (newest-short (waits q) (omega (arith, length_waits q, q.bounded.1)))
-    ∙ ap newest (c.grow-older.ensures.after ∙ sym (after_put_no c.args.pdu.now (waits c.args.self.now) (sym c.if-not-carries.ensures))) in
+    ∙ ap newest (c.grow_older.ensures.after ∙ sym (after_put_no c.args.pdu.now (waits c.args.self.now) (sym c.if-not-carries.ensures))) in
     record { after = after; meaning = within_put c.args.pdu.now (waits c.args.self.now) (waits q) after }
 
 pub push-requires : goal.push-requires
 push-requires c =
-    let q = c.grow-older.new.self in
+    let q = c.grow_older.new.self in
     let Old : Queue → Type 0 = λ q. Each (λ e. 1 ≤ e.age) (held_entries q) in
     let Room : Queue → Type 0 = λ q. q.held < 8 in
     record {
@@ -35,14 +35,14 @@ push-requires c =
       carried = let long = and_parts _ _ (sym c.if-not-carries.ensures) in (leb-true _ _ long.0, leb-true _ _ long.1);
       old =
           elim c.if-self-eq-CAPACITY.branch [
-            | then-self-eq-CAPACITY w ↦ subst Old (sym w.self-is) (subst (λ es. Each (λ e. 1 ≤ e.age) es) (sym w.remove.ensures.entries) (each_removed (held_entries q) 0 (omega (arith, length_held q, w.if-self-eq-CAPACITY.true)) (λ e. 1 ≤ e.age) c.grow-older.ensures.old))
-            | else-self-eq-CAPACITY w ↦ subst Old (sym w.self-is) c.grow-older.ensures.old
+            | then-self-eq-CAPACITY w ↦ subst Old (sym w.self-is) (subst (λ es. Each (λ e. 1 ≤ e.age) es) (sym w.remove.ensures.entries) (each_removed (held_entries q) 0 (omega (arith, length_held q, w.if-self-eq-CAPACITY.true)) (λ e. 1 ≤ e.age) c.grow_older.ensures.old))
+            | else-self-eq-CAPACITY w ↦ subst Old (sym w.self-is) c.grow_older.ensures.old
           ];
     }
 
 pub returns : goal.returns
 returns c =
-    let q = c.grow-older.new.self in
+    let q = c.grow_older.new.self in
     let new : Waiting = record { pdu = c.args.pdu.now; age = 0 } in
     let added : waits c.if-self-eq-CAPACITY.self ++ new ∷ [] ≡ newest (waits q ++ new ∷ []) =
     elim c.if-self-eq-CAPACITY.branch [
@@ -50,6 +50,6 @@ returns c =
       | else-self-eq-CAPACITY w ↦ ap (λ q. waits q ++ new ∷ []) w.self-is ∙ newest-room (waits q) new (omega (arith, length_waits q, w.if-self-eq-CAPACITY.false, q.bounded.1))
     ] in
     let after : waits c.push.new.self ≡ put_in c.args.pdu.now (waits c.args.self.now) =
-    c.push.ensures ∙ added ∙ ap (λ ws. newest (ws ++ new ∷ [])) c.grow-older.ensures.after
+    c.push.ensures ∙ added ∙ ap (λ ws. newest (ws ++ new ∷ [])) c.grow_older.ensures.after
     ∙ ap newest (sym (after_put_yes c.args.pdu.now (waits c.args.self.now) (sym c.if-not-carries.ensures))) in
     record { after = after; meaning = within_put c.args.pdu.now (waits c.args.self.now) (waits c.push.new.self) after }

@@ -6,12 +6,12 @@ use Rattle.air.specs.Queues.{Each, Pairs, Apart, Carried, Older, capacity, waiti
 use Rattle.std.proofs.lemmas.List.{length-take-le}
 use Rattle.std.specs.List.{remove}
 
-pub invariant-of-self : goal.invariant-of-self
-invariant-of-self c =
+pub invariant_of-self : goal.invariant_of-self
+invariant_of-self c =
     let q = c.args.self.now in
-    let ys = c.rotate-left.new.self in
+    let ys = c.rotate_left.new.self in
     let k = c.args.k in
-    let turn = c.rotate-left.ensures in
+    let turn = c.rotate_left.ensures in
     let fits : q.held ≤ length q.entries = omega (arith, q.bounded.0, q.bounded.1) in
     let front : take (q.held - 1) (put_mid k (q.held - k) q.entries ys) ≡ remove (take q.held q.entries) k =
     take_rotated q.entries ys k q.held c.requires fits turn.len turn.by_index in
@@ -35,9 +35,9 @@ invariant-of-self c =
 pub returns : goal.returns
 returns c =
     let q = c.args.self.now in
-    let turn = c.rotate-left.ensures in
+    let turn = c.rotate_left.ensures in
     let fits : q.held ≤ length q.entries = omega (arith, q.bounded.0, q.bounded.1) in
-    let front = take_rotated q.entries c.rotate-left.new.self c.args.k q.held c.requires fits turn.len turn.by_index in
+    let front = take_rotated q.entries c.rotate_left.new.self c.args.k q.held c.requires fits turn.len turn.by_index in
     record {
       after = ap (map (waiting_at q.store)) front ∙ map_removed (waiting_at q.store) (take q.held q.entries) c.args.k;
       entries = front;

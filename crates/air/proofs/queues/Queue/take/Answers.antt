@@ -8,11 +8,11 @@ use Rattle.protocol.specs.Airs.{Waiting, carries, max_draw, max_pdu, age_limit}
 use Rattle.std.proofs.lemmas.Bool.{and_parts, leb-true, cond-true, cond-false}
 use Rattle.std.specs.List.{remove}
 
-pub returns-in-default : goal.returns-in-default
-returns-in-default c =
+pub returns-in_default : goal.returns-in_default
+returns-in_default c =
     let ws = waits c.args.self.now in
     let buffer = c.args.buffer.now in
-    let took = took_none c.args.k c.args.keeps c.args.draw buffer ws (sym c.in-default.ensures) in
+    let took = took_none c.args.k c.args.keeps c.args.draw buffer ws (sym c.in_default.ensures) in
     record { took = took; meaning = took_answers c.args.k c.args.keeps c.args.draw buffer None buffer ws ws took }
 
 pub write-requires : goal.write-requires

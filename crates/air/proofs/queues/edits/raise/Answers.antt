@@ -5,8 +5,8 @@ use Rattle.std.proofs.lemmas.List.Edits.{map_over_more}
 use Rattle.std.proofs.lemmas.List.{take_all, drop_all, append-nil, get_or_default}
 use Rattle.air.specs.Notes.{age_ahead}
 
-pub overflow-add-entry : goal.overflow-add-entry
-overflow-add-entry c =
+pub overflow_add-entry : goal.overflow_add-entry
+overflow_add-entry c =
     let i = c.loop-entry.entry-index in
     let ahead = age_ahead i c.args.entries.now c.loop-entry.entries c.loop-entry.invariant c.loop-entry-test.true in
     omega (arith, c.requires i c.loop-entry-test.true, ahead)

@@ -10,9 +10,9 @@ pub returns-in-Ok : goal.returns-in-Ok
 returns-in-Ok c =
     let d = draft_of c.args.self in
     let buffer = c.args.buffer.now in
-    let held = c.put-header.ensures ∙ ap (headed (sn_of c.args.ack_sn) true) c.end-entries.ensures in
+    let held = c.put_header.ensures ∙ ap (headed (sn_of c.args.ack_sn) true) c.end_entries.ensures in
     ap (λ b. record { answer = Ok d.size; draft = d; buffer = b }) held
-    ∙ closes_by (Ok tt) (sn_of c.args.ack_sn) d buffer c.put-header.new.buffer c.requires.0 c.requires.1 held c.in-Ok.ensures
+    ∙ closes_by (Ok tt) (sn_of c.args.ack_sn) d buffer c.put_header.new.buffer c.requires.0 c.requires.1 held c.in-Ok.ensures
 
 pub returns-in-Err : goal.returns-in-Err
 returns-in-Err c =
@@ -21,9 +21,9 @@ returns-in-Err c =
     let buffer = c.args.buffer.now in
     let last = c.args.self.last in
     let fault = c.in-Err.fault in
-    let held = c.put-header.ensures ∙ ap (headed ack true) c.end-entries.ensures in
+    let held = c.put_header.ensures ∙ ap (headed ack true) c.end_entries.ensures in
     let back = ap (λ b. set b (last + 1) (byte buffer (last + 1)))
-    (c.put-bytes.ensures ∙ ap (λ b. byte buffer 0 ∷ byte buffer 1 ∷ byte buffer 2 ∷ drop 3 b) held)
+    (c.put_bytes.ensures ∙ ap (λ b. byte buffer 0 ∷ byte buffer 1 ∷ byte buffer 2 ∷ drop 3 b) held)
     ∙ restored buffer last ack (omega (arith, c.requires)) (c.args.self.behind c.requires.0) in
     ap (λ b. record { answer = Err fault; draft = d; buffer = b }) back
-    ∙ closes_by (Err fault) ack d buffer c.put-header.new.buffer c.requires.0 c.requires.1 held c.in-Err.ensures
+    ∙ closes_by (Err fault) ack d buffer c.put_header.new.buffer c.requires.0 c.requires.1 held c.in-Err.ensures

@@ -8,9 +8,9 @@ use Rattle.wire.specs.Views.{entry_of, found_of, front}
 
 pub returns : goal.returns
 returns c =
-    let found = c.in-ok-entry.field-0 in
+    let found = c.in_ok-entry.field-0 in
     let rest = c.args.self.now.rest.now in
-    let next = listing-found rest (found_of found) (sym c.in-ok-entry.ensures.value) in
+    let next = listing-found rest (found_of found) (sym c.in_ok-entry.ensures.value) in
     sym
     (ap front (ap (λ more. along listing more 3 rest) c.if-not-self.false ∙ next)
     ∙ ap (λ left. (Some (entry_of found.entry), along listing found.e1 3 left)) (sym (take_rest rest found.size))
