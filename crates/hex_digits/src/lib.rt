@@ -1,5 +1,7 @@
 //! Bytes from hexadecimal digits.
 
+#![tactic(auto)]
+
 ghost use Rattle.std.specs.Prelude.{◌≡◌, ℕ, ◌*◌, ◌<◌, length, IfSome, IfOk, vec_len, MatchOption};
 ghost use Rattle.hex_digits.specs.Digits.{Digit, Byte, Spelt};
 

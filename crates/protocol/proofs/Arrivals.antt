@@ -1,17 +1,17 @@
 -- What either end put, the other reads: no PDU of a lawful series is refused for its content.
-use Rattle.std.proofs.Common.{◌≡◌, ℕ, ◌+◌, ◌%◌, ◌<◌, ◌≤◌, Bool, true, false, cond, ◌||◌, ltb, leb, ◌⊎◌, List, [], ◌∷◌, ◌++◌, length, Some, None, Ok, Err, MatchBool, Option, Result, sym, refl, ap, ◌∙◌, subst, inl, inr, ⊎_elim, arith}
+use Rattle.std.proofs.Common.{◌≡◌, ℕ, ◌+◌, ◌%◌, ◌<◌, ◌≤◌, Bool, true, false, cond, ◌||◌, ltb, leb, List, [], ◌∷◌, ◌++◌, length, Some, None, Ok, MatchBool, Option, sym, refl, ap, ◌∙◌, subst, inl, inr, ⊎_elim, arith}
 use Rattle.protocol.proofs.Between.{Data, Told, LinkSound, link-new, next-behind, top_window, all-at}
-use Rattle.protocol.proofs.Calls.{data_read, data_arrives, state}
+use Rattle.protocol.proofs.Calls.{data_read, data_arrives}
 use Rattle.protocol.proofs.Delivered.{event_keeps}
 use Rattle.protocol.proofs.FarKept.{Taken}
 use Rattle.protocol.proofs.Formats.{written-reads-back}
 use Rattle.protocol.proofs.PdcpKept.{Handed, handed_sound}
-use Rattle.protocol.specs.Airs.{Waiting, Within, LetsOut, takes, Takes, laid, max_pdu}
+use Rattle.protocol.specs.Airs.{Waiting, LetsOut, takes, Takes, laid, max_pdu}
 use Rattle.protocol.specs.Bytes.{Bytes}
 use Rattle.protocol.specs.Delivery.{ReadsWell, ArrivesWell, AllArriveWell, NothingRefused}
 use Rattle.protocol.specs.Links as link
 use Rattle.protocol.specs.Numbers.{stale}
-use Rattle.protocol.specs.Pdus.{Amd, Pdu, amd, status}
+use Rattle.protocol.specs.Pdus.{amd, status}
 use Rattle.protocol.specs.Reading.{decode}
 use Rattle.protocol.specs.Receiving as far
 use Rattle.protocol.specs.Refusals.{at, unless}
@@ -19,12 +19,9 @@ use Rattle.protocol.specs.Reordering as pdcp
 use Rattle.protocol.specs.Runs.{State, Event, next, new_state, AirsKeep, Lawful, accepted_by, collected_by, gives_up, outcome, Still}
 use Rattle.protocol.specs.Sending as near
 use Rattle.protocol.specs.Settings.{Settings}
-use Rattle.protocol.specs.Writing.{pdu_fault}
-use Rattle.protocol.specs.declared.faults.End.{End}
 use Rattle.protocol.specs.declared.faults.End.TheVariants.{Near, Far}
-use Rattle.protocol.specs.declared.faults.Fault.{Fault}
 use Rattle.protocol.specs.declared.faults.Refusal.TheVariants.{ShortBuffer, PacketDue, EndClash}
-use Rattle.std.proofs.lemmas.Bool.{both_ways, cond-true, cond-false}
+use Rattle.std.proofs.lemmas.Bool.{both_ways, cond-false}
 
 module _ {acc got : List Bytes} {ran : Bool} {r : State} (sound : LinkSound acc got ran r) (s : Settings) (buffer : Bytes) where
   -- a report is stale or taken

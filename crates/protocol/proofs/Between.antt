@@ -1,9 +1,8 @@
 -- The invariant of a link between its airs: what joins the two ends, and what every PDU that waits says.
-use Rattle.std.proofs.Common.{◌≡◌, ℕ, zero, suc, ◌+◌, ◌*◌, ◌%◌, ◌<◌, ◌≤◌, Bool, true, false, cond, ◌||◌, ltb, ◌⊎◌, List, [], ◌∷◌, ◌++◌, None, sym, refl, ap, ◌∙◌, subst, inl, inr, ⊎_elim, arith}
+use Rattle.std.proofs.Common.{◌≡◌, ℕ, suc, ◌+◌, ◌*◌, ◌%◌, ◌<◌, ◌≤◌, Bool, true, false, cond, ltb, List, [], ◌∷◌, ◌++◌, None, sym, refl, ap, inl, inr, ⊎_elim, arith}
 use Rattle.protocol.proofs.Counts.{one_count}
 use Rattle.protocol.proofs.FarKept.{far_new}
 use Rattle.protocol.proofs.Invariants.{PartOf, sdu, NearSound, FarSound, PdcpSound}
-use Rattle.protocol.proofs.Marks.{top_from}
 use Rattle.protocol.proofs.NearKept.{near_new}
 use Rattle.protocol.proofs.PdcpKept.{Held, new_sound}
 use Rattle.protocol.proofs.Reports.{Names}
@@ -11,7 +10,7 @@ use Rattle.protocol.proofs.Strikes.{all_within}
 use Rattle.protocol.specs.Airs.{Waiting, Within, carries, age_limit, aged, after_put}
 use Rattle.protocol.specs.Bytes.{Bytes}
 use Rattle.protocol.specs.Laws.{EntriesFit}
-use Rattle.protocol.specs.Numbers.{sn_modulus, count_from}
+use Rattle.protocol.specs.Numbers.{count_from}
 use Rattle.protocol.specs.Pdus.{Amd, Entry, amd, status, encode}
 use Rattle.protocol.specs.Receiving as far
 use Rattle.protocol.specs.Runs.{State, new_state}

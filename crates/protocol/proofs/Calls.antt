@@ -1,35 +1,33 @@
 -- Each call keeps the invariant of the link.
-use Rattle.std.proofs.Common.{◌≡◌, ℕ, suc, ◌+◌, ◌-◌, ◌%◌, ◌<◌, ◌≤◌, max, Bool, true, false, cond, not, ◌&&◌, ◌||◌, eqb, ltb, leb, ◌⊎◌, List, [], ◌∷◌, ◌++◌, length, take, Some, None, Ok, Err, Option, Result, sym, refl, ap, ◌∙◌, subst, inl, inr, ⊎_elim, arith}
-use Rattle.protocol.proofs.Between.{read-ahead, read_behind, Data, Told, LinkSound, ack-behind, next-behind, top_window, ack_most, put_all, all_map, all-at}
-use Rattle.protocol.proofs.FarKept.{SameSdus, Taken, far_given, sdu-given, sdu-short, far_taken, far_arrives, far_discarded, far_reported, far_ticked}
+use Rattle.std.proofs.Common.{◌≡◌, ℕ, suc, ◌+◌, ◌-◌, ◌%◌, ◌<◌, ◌≤◌, max, Bool, true, false, cond, ◌||◌, eqb, ltb, leb, ◌⊎◌, List, [], ◌∷◌, ◌++◌, length, Some, None, Ok, Option, sym, refl, ap, ◌∙◌, subst, ⊎_elim, arith}
+use Rattle.protocol.proofs.Between.{read-ahead, read_behind, Data, Told, LinkSound, next-behind, top_window, ack_most, put_all, all_map}
+use Rattle.protocol.proofs.FarKept.{SameSdus, Taken, far_given, sdu-given, sdu-short, far_arrives, far_discarded, far_reported, far_ticked}
 use Rattle.protocol.proofs.Formats.{written-reads-back}
-use Rattle.protocol.proofs.Invariants.{Packets, PartOf, packet, sdu, NearSound, FarSound, PdcpSound}
+use Rattle.protocol.proofs.Invariants.{PartOf, sdu, FarSound, PdcpSound}
 use Rattle.protocol.proofs.NearKept.{near_given, given-acknowledged, given-top}
 use Rattle.protocol.proofs.NearMoved.{ReportedKept, near_reported, TickedKept, near_ticked}
 use Rattle.protocol.proofs.NearSpent.{SpentKept, near_spent}
-use Rattle.protocol.proofs.Partials.{part_fits}
 use Rattle.protocol.proofs.PdcpKept.{Held, given_sound, Handed, handed_sound, collected_sound, collected_keeps, ticked_sound, ticked_keeps}
-use Rattle.protocol.proofs.Reports.{Names, Reports, report_right, report_pdu, report-fits, entries-valid, unnamed_complete, named_in}
+use Rattle.protocol.proofs.Reports.{Reports, report_right, report_pdu, report-fits, entries-valid, unnamed_complete, named_in}
 use Rattle.protocol.proofs.Strikes.{all_within}
-use Rattle.protocol.specs.Airs.{Waiting, Within, Waits, LetsOut, takes, Takes}
+use Rattle.protocol.specs.Airs.{Waiting, Within}
 use Rattle.protocol.specs.Bytes.{Bytes}
 use Rattle.protocol.specs.Laws.{SegmentFits}
 use Rattle.protocol.specs.Links as link
-use Rattle.protocol.specs.Pdus.{Segment, whole, first, middle, last, Amd, Pdu, amd, status, encode}
+use Rattle.protocol.specs.Pdus.{Segment, whole, first, middle, last, Amd, amd, status, encode}
 use Rattle.protocol.specs.Reading.{decode, offset_fault}
 use Rattle.protocol.specs.Receiving as far
 use Rattle.protocol.specs.Refusals.{at, unless}
 use Rattle.protocol.specs.Reordering as pdcp
-use Rattle.protocol.specs.Runs.{State, Event, Puts, Still}
+use Rattle.protocol.specs.Runs.{State, Puts}
 use Rattle.protocol.specs.Sending as near
-use Rattle.protocol.specs.Settings.{Settings, between}
+use Rattle.protocol.specs.Settings.{Settings}
 use Rattle.protocol.specs.Timers.{runs_out}
 use Rattle.protocol.specs.Writing.{pdu_fault}
-use Rattle.protocol.specs.declared.faults.End.{End}
 use Rattle.protocol.specs.declared.faults.End.TheVariants.{Near, Far}
 use Rattle.protocol.specs.declared.faults.Fault.{Fault}
 use Rattle.protocol.specs.declared.faults.Refusal.TheVariants.{EndClash}
-use Rattle.std.proofs.lemmas.Bool.{both_ways, cases_lt, cases_Bool, cond-true, cond-false, ltb-true, ltb-false, le-ltb, ne_eqb, or_from}
+use Rattle.std.proofs.lemmas.Bool.{both_ways, cases_lt, cond-false, ltb-false, le-ltb, ne_eqb, or_from}
 use Rattle.std.specs.List.{AllByRecursion as All}
 
 -- a segment that begins behind byte 0 has an SO that is not 0

@@ -1,19 +1,18 @@
 -- The delivery theorem: every event of a lawful series keeps the invariant, and the invariant delivers.
-use Rattle.std.proofs.Common.{◌≡◌, ℕ, suc, ◌+◌, ◌-◌, ◌<◌, ◌≤◌, Bool, true, false, cond, not, ◌&&◌, ◌||◌, eqb, ltb, leb, ◌⊎◌, List, [], ◌∷◌, ◌++◌, length, get_or, take, drop, Some, None, Ok, Err, MatchBool, Option, Result, sym, refl, ap, ◌∙◌, subst, inl, inr, ⊎_elim, append_assoc, arith}
-use Rattle.protocol.proofs.Between.{Data, Told, LinkSound, link-new, next-behind, all-at}
+use Rattle.std.proofs.Common.{◌≡◌, ℕ, ◌+◌, ◌<◌, Bool, true, false, cond, not, ◌||◌, ltb, leb, List, [], ◌∷◌, ◌++◌, length, take, drop, Some, None, Ok, Err, MatchBool, Option, Result, sym, refl, subst, append_assoc, arith}
+use Rattle.protocol.proofs.Between.{Data, Told, LinkSound, all-at}
 use Rattle.protocol.proofs.Calls.{state, unchanged, fewer, gave, sent, reported, ticked_near, ticked_far, read_near, read_far, collected_in as took_out}
-use Rattle.protocol.proofs.Invariants.{StoreSound, PdcpSound}
 use Rattle.protocol.proofs.Reports.{report_pdu}
 use Rattle.protocol.proofs.Strikes.{within_all}
-use Rattle.protocol.specs.Airs.{Waiting, Within, Waits, LetsOut, takes, Takes, laid, max_pdu}
+use Rattle.protocol.specs.Airs.{Waiting, Within, LetsOut, takes, Takes, laid, max_pdu}
 use Rattle.protocol.specs.Bytes.{Bytes, put}
 use Rattle.protocol.specs.Links as link
 use Rattle.protocol.specs.Numbers.{stale}
-use Rattle.protocol.specs.Pdus.{Amd, Pdu, amd, status, encode}
+use Rattle.protocol.specs.Pdus.{Pdu, amd, status, encode}
 use Rattle.protocol.specs.Reading.{decode}
 use Rattle.protocol.specs.Receiving as far
 use Rattle.protocol.specs.Reordering as pdcp
-use Rattle.protocol.specs.Runs.{State, Event, outcome, next, Puts, Still, AirsKeep, Lawful, end_of, accepted_by, collected_by, accepted_in, collected_in, gives_up, ran_out, packets, due_packets}
+use Rattle.protocol.specs.Runs.{State, Event, outcome, next, Puts, Still, AirsKeep, Lawful, end_of, accepted_by, collected_by, accepted_in, collected_in, gives_up, ran_out}
 use Rattle.protocol.specs.Refusals.{at}
 use Rattle.protocol.specs.Sending as near
 use Rattle.protocol.specs.Settings.{Settings, between}
@@ -23,7 +22,7 @@ use Rattle.protocol.specs.declared.faults.End.TheVariants.{Near, Far}
 use Rattle.protocol.specs.declared.faults.Fault.{Fault}
 use Rattle.protocol.specs.declared.faults.Refusal.TheVariants.{LinkFailed, PacketLength, WindowFull, PacketLimit, GrantSize, ShortBuffer, PacketDue, WrongKind, EndClash, ShortCollect}
 use Rattle.std.proofs.lemmas.List.{append-nil, take_at}
-use Rattle.std.proofs.lemmas.Bool.{both_ways, cases_lt, cond-true, cond-false, ltb-true, ltb-false, leb-true, leb-false, and_parts, not-false}
+use Rattle.std.proofs.lemmas.Bool.{ltb-true, leb-true, leb-false, and_parts}
 
 -- a call that accepts and collects nothing ----------------------------------------------------------------------------
 

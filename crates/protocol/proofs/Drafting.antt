@@ -1,5 +1,5 @@
 -- A draft that took entries and is closed has written the status report of these entries.
-use Rattle.std.proofs.Common.{◌≡◌, ℕ, zero, suc, ◌+◌, ◌-◌, ◌*◌, ◌/◌, ◌%◌, ◌<◌, ◌≤◌, Bool, true, false, cond, eqb, ltb, leb, List, [], ◌∷◌, ◌++◌, length, get_or, take, drop, set, is_ok, Some, None, Ok, Err, Option, Result, sym, refl, ap, ◌∙◌, subst, ⊎_elim, append_assoc, add-zero, add_assoc, arith, length-append, length-drop}
+use Rattle.std.proofs.Common.{◌≡◌, ℕ, suc, ◌+◌, ◌-◌, ◌*◌, ◌/◌, ◌%◌, ◌<◌, ◌≤◌, Bool, true, false, cond, ltb, List, [], ◌∷◌, ◌++◌, length, take, drop, set, is_ok, Some, None, Ok, Err, Option, Result, sym, refl, ap, ◌∙◌, subst, ⊎_elim, append_assoc, add-zero, add_assoc, arith, length-append, length-drop}
 use Rattle.protocol.proofs.Formats.{written-reads-back}
 use Rattle.protocol.specs.Bytes.{Bytes, byte, flag, put, put_at}
 use Rattle.protocol.specs.Drafts.{Draft, Step, opened, add, sealed, close, closed_if, then, fill}
@@ -11,9 +11,8 @@ use Rattle.protocol.specs.declared.faults.End.TheVariants.{Near}
 use Rattle.protocol.specs.Refusals.{at, unless}
 use Rattle.protocol.specs.declared.faults.Fault.{Fault}
 use Rattle.protocol.specs.declared.faults.Refusal.TheVariants.{ShortBuffer, InvalidEntry}
-use Rattle.std.proofs.lemmas.List.{length-take-le, take-append-drop, take_at, drop_at, drop-drop, drop-set-add, set-append_right, get_or-append_right, get_or-drop}
+use Rattle.std.proofs.lemmas.List.{length-take-le, take-append-drop, take_at, drop_at, drop-drop, set-append_right, get_or-append_right}
 use Rattle.std.proofs.lemmas.Bool.{cases_lt, cond-true, cond-false, ltb-false, lt-ltb, le-ltb, false≢true}
-use Rattle.std.proofs.lemmas.Bool.Decides.{nat_tests}
 
 -- the entries as a draft holds them, each with E1
 abbrev held : List Entry → Bytes

@@ -1,5 +1,5 @@
 -- The laws of formats: what is written reads back, and what is read writes back.
-use Rattle.std.proofs.Common.{◌≡◌, ℕ, zero, suc, ◌+◌, ◌-◌, ◌*◌, ◌/◌, ◌%◌, ◌<◌, ◌≤◌, Bool, true, false, cond, ◌&&◌, ◌||◌, eqb, ltb, leb, List, [], ◌∷◌, ◌++◌, length, take, drop, Some, None, Ok, Err, Option, Result, sym, refl, ap, ◌∙◌, subst, ⊎_elim, arith}
+use Rattle.std.proofs.Common.{◌≡◌, ℕ, ◌+◌, ◌*◌, ◌/◌, ◌%◌, ◌<◌, ◌≤◌, Bool, true, false, ltb, List, [], ◌∷◌, length, Some, None, Ok, Err, Option, Result, sym, refl, ap, ◌∙◌, ⊎_elim, arith}
 use Rattle.protocol.proofs.Walks.{whole_written, listing-written, valid-written, more-listed, writes-back, octets_drop, along-cleared, blind_whole, blind_listing, blind_valid}
 use Rattle.protocol.specs.Bytes.{Bytes, Octets, byte, bit, flag}
 use Rattle.protocol.specs.Laws.{SegmentFits, EntriesFit, WrittenReadsBack, ReadWritesBack, ReservedNotRead, PdcpRoundTrip}

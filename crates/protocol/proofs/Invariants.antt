@@ -1,9 +1,9 @@
 -- What each part of the link keeps, over the packets that were accepted so far.
-use Rattle.std.proofs.Common.{◌≡◌, ℕ, ◌+◌, ◌-◌, ◌%◌, ◌<◌, ◌≤◌, Bool, true, false, List, [], ◌∷◌, length, get_or, take, drop, Some, None, Option}
+use Rattle.std.proofs.Common.{◌≡◌, ℕ, ◌+◌, ◌%◌, ◌<◌, ◌≤◌, Bool, true, false, List, [], ◌∷◌, length, get_or, take, drop, Some}
 use Rattle.protocol.specs.Airs.{Within}
 use Rattle.protocol.specs.Bytes.{Bytes}
 use Rattle.protocol.specs.Numbers.{sn_modulus}
-use Rattle.protocol.specs.Pdus.{Amd, Entry, encode_pdcp}
+use Rattle.protocol.specs.Pdus.{Amd, encode_pdcp}
 use Rattle.protocol.specs.Receiving as far
 use Rattle.protocol.specs.Reordering as pdcp
 use Rattle.protocol.specs.Sending as near

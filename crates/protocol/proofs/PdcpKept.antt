@@ -1,23 +1,22 @@
 -- PDCP at the far end keeps its invariant: packets are stored under the COUNT that they were accepted under, and
 -- collected in its order.
-use Rattle.std.proofs.Common.{◌≡◌, ℕ, zero, suc, ◌+◌, ◌-◌, ◌%◌, ◌<◌, ◌≤◌, max, Bool, true, false, cond, not, ◌&&◌, ◌||◌, eqb, ltb, leb, ◌⊎◌, List, [], ◌∷◌, ◌++◌, length, get_or, take, Some, None, Ok, Err, Result, sym, refl, ap, ◌∙◌, subst, inl, inr, ⊎_elim, arith, length-append}
+use Rattle.std.proofs.Common.{◌≡◌, ℕ, ◌+◌, ◌-◌, ◌%◌, ◌<◌, ◌≤◌, max, Bool, true, false, cond, not, ◌&&◌, ◌||◌, eqb, ltb, leb, ◌⊎◌, List, [], ◌∷◌, ◌++◌, length, take, Some, Ok, Result, sym, refl, ap, ◌∙◌, subst, inl, inr, ⊎_elim, arith, length-append}
 use Rattle.protocol.proofs.Counts.{one_pdcp_count}
 use Rattle.protocol.proofs.Formats.{pdcp_round_trip}
 use Rattle.protocol.proofs.Invariants.{Packets, packet, sdu, StoreSound, PdcpSound}
 use Rattle.protocol.proofs.Seeks.{seek-from, seek_to, seek_found, seek-before}
 use Rattle.protocol.proofs.Strikes.{within_append, within_longer}
-use Rattle.protocol.specs.Airs.{Within, done, kept, struck}
+use Rattle.protocol.specs.Airs.{Within, done}
 use Rattle.protocol.specs.Bytes.{Bytes}
 use Rattle.protocol.specs.Numbers.{pdcp_count}
 use Rattle.protocol.specs.Reading.{decode_pdcp}
 use Rattle.protocol.specs.declared.faults.Fault.{Fault}
-use Rattle.protocol.specs.Reordering.{Stored, Pdcp, new_pdcp, is_stored, insert, due_of, due, unstored_from, reordering, storing, delivering, accepted, counted, numbered, handed_up, collected, tick_pdcp}
+use Rattle.protocol.specs.Reordering.{Stored, Pdcp, new_pdcp, is_stored, insert, unstored_from, reordering, storing, delivering, accepted, counted, numbered, handed_up, collected, tick_pdcp}
 use Rattle.protocol.specs.Searching.{seek}
 use Rattle.protocol.specs.Settings.{Settings}
 use Rattle.protocol.specs.Timers.{Timer, stopped, running, endless, started, runs, runs_out, ticked}
 use Rattle.std.proofs.lemmas.List.{take_more, take-append-le, get_or_append_left}
-use Rattle.std.proofs.lemmas.Bool.{both_ways, cases_eq, cases_lt, cases_Bool, cond-true, cond-false, eq-eqb, ne_eqb, eqb-true, eqb-false, ltb-true, ltb-false, leb-true, leb-false, lt-leb, or_left, or_right, or_parts, or_cases, or_from, not-true, not-false}
-use Rattle.std.proofs.lemmas.Bool.Decides.{nat_tests}
+use Rattle.std.proofs.lemmas.Bool.{both_ways, cases_lt, cases_Bool, cond-true, cond-false, eq-eqb, eqb-true, eqb-false, ltb-true, ltb-false, leb-false, lt-leb, or_left, or_right, or_parts, or_cases, or_from, not-true, not-false}
 
 -- the store ---------------------------------------------------------------------------------------------------------
 

@@ -1,5 +1,5 @@
 -- Laws of striking elements out of a list, and of what ages in an air.
-use Rattle.std.proofs.Common.{◌≡◌, ℕ, zero, suc, ◌+◌, ◌<◌, ◌≤◌, Bool, true, false, cond, ltb, List, [], ◌∷◌, ◌++◌, take, drop, None, MatchBool, Option, sym, refl, ap, ◌∙◌, subst, arith}
+use Rattle.std.proofs.Common.{◌≡◌, ℕ, zero, suc, ◌<◌, ◌≤◌, Bool, true, false, cond, ltb, List, [], ◌∷◌, ◌++◌, take, drop, None, MatchBool, Option, sym, refl, ap, ◌∙◌, subst, arith}
 use Rattle.protocol.specs.Airs.{Waiting, Within, done, kept, struck, carries, age_limit, aged, after_put, takes, Takes}
 use Rattle.protocol.specs.Bytes.{Bytes}
 use Rattle.std.proofs.lemmas.List.{take-append-drop, take-take}

@@ -1,16 +1,15 @@
 -- The invariant delivers.
-use Rattle.std.proofs.Common.{◌≡◌, ℕ, suc, ◌+◌, ◌-◌, ◌<◌, ◌≤◌, Bool, true, false, cond, eqb, ltb, ◌⊎◌, List, [], ◌∷◌, ◌++◌, length, get_or, take, drop, sym, refl, ap, ◌∙◌, subst, inl, inr, ⊎_elim, arith}
+use Rattle.std.proofs.Common.{◌≡◌, ℕ, suc, ◌+◌, ◌-◌, ◌<◌, ◌≤◌, true, false, eqb, List, [], ◌∷◌, ◌++◌, length, get_or, take, drop, sym, refl, ap, ◌∙◌, subst, inl, inr, ⊎_elim, arith}
 use Rattle.protocol.proofs.Between.{LinkSound, link-new}
 use Rattle.protocol.proofs.Delivered.{series_keeps}
-use Rattle.protocol.proofs.Invariants.{packet, StoreSound, PdcpSound}
-use Rattle.protocol.proofs.PdcpKept.{Held, stored-from, lowest_stored, other-stored}
+use Rattle.protocol.proofs.Invariants.{packet, StoreSound}
+use Rattle.protocol.proofs.PdcpKept.{Held, lowest_stored, other-stored}
 use Rattle.protocol.proofs.Strikes.{within_none, within_longer}
-use Rattle.protocol.specs.Airs.{Within, done, kept, struck}
+use Rattle.protocol.specs.Airs.{Within, kept, struck}
 use Rattle.protocol.specs.Bytes.{Bytes}
-use Rattle.protocol.specs.Delivery.{accepted, collected, link_after, passed, InTime, Acknowledged, StoredUnder, Delivers, Finished, Alike, Delivery}
-use Rattle.protocol.specs.Links.{Link}
+use Rattle.protocol.specs.Delivery.{accepted, collected, link_after, passed, InTime, Acknowledged, Delivers, Finished, Delivery}
 use Rattle.protocol.specs.Reordering.{Stored, is_stored, due_of}
-use Rattle.protocol.specs.Runs.{Event, new_state, Lawful, end_of, accepted_in, collected_in, ran_out, packets, due_packets}
+use Rattle.protocol.specs.Runs.{Event, new_state, Lawful, end_of, ran_out, packets, due_packets}
 use Rattle.protocol.specs.Settings.{Settings}
 use Rattle.std.proofs.lemmas.List.{append-nil, take_all, take-take, take-append-drop, drop-take, drop_more, length-take-le}
 use Rattle.std.proofs.lemmas.Bool.{both_ways, cases_lt, cond-true, cond-false, lt-ltb, le-ltb, eqb-true, or_cases}

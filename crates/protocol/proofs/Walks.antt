@@ -1,14 +1,13 @@
 -- The walk along the entries of a status report: its steps, and what it finds in what was written.
-use Rattle.std.proofs.Common.{◌≡◌, ℕ, zero, suc, ◌+◌, ◌-◌, ◌*◌, ◌/◌, ◌%◌, ◌<◌, ◌≤◌, Bool, true, false, cond, not, ◌&&◌, eqb, ltb, leb, List, [], ◌∷◌, ◌++◌, length, get_or, take, drop, Some, None, Option, sym, refl, ap, ◌∙◌, subst, arith, length-append, length-drop}
+use Rattle.std.proofs.Common.{◌≡◌, ℕ, zero, suc, ◌+◌, ◌<◌, ◌≤◌, Bool, true, false, cond, not, ◌&&◌, eqb, ltb, List, [], ◌∷◌, ◌++◌, length, drop, Some, None, sym, refl, ap, ◌∙◌, subst, arith, length-append, length-drop}
 use Rattle.protocol.specs.Bytes.{Bytes, Octets, byte, bit}
 use Rattle.protocol.specs.Laws.{MissingFits, EntriesFit}
 use Rattle.protocol.specs.Pdus.{Missing, every, span, Entry, encode_entry, encode_entries, more}
 use Rattle.protocol.specs.Reading.{entry_length, entry_of, e1_of, e3_of, Visit, walk, along, listing, whole_entries, valid_entries, valid, clearing, cleared_entry}
 use Rattle.protocol.specs.Refusals.{at}
 use Rattle.protocol.specs.Writing.{entries_fault}
-use Rattle.protocol.specs.declared.faults.Fault.{Fault}
 use Rattle.protocol.specs.declared.faults.Refusal.TheVariants.{Malformed, InvalidEntry}
-use Rattle.std.proofs.lemmas.Bool.{ltb-true, ltb-false, le-ltb, lt-ltb, ne_eqb, cond-true, cond-false}
+use Rattle.std.proofs.lemmas.Bool.{ltb-false, le-ltb, lt-ltb, ne_eqb, cond-true, cond-false}
 use Rattle.std.proofs.lemmas.List.{get_or-drop}
 use Rattle.std.proofs.lemmas.Bool.Decides.{nat_tests}
 

@@ -1,6 +1,6 @@
 -- What waits in an air, which carries PDUs one way, and what its operations may leave. An air may lose, repeat and
 -- reorder. It does not alter a PDU, and lets none out that is 64 or more Puts and Skips old.
-use Rattle.std.specs.Prelude.{◌≡◌, ℕ, suc, ◌<◌, ◌≤◌, Bool, true, false, cond, ◌&&◌, List, [], ◌∷◌, ◌++◌, length, Some, None, MatchBool, Option, nat_le, nat_lt}
+use Rattle.std.specs.Prelude.{◌≡◌, ℕ, suc, Bool, cond, ◌&&◌, List, [], ◌∷◌, ◌++◌, length, Some, None, MatchBool, Option, nat_le, nat_lt}
 use Rattle.protocol.specs.Bytes.{Bytes, put}
 
 -- a PDU that waits, and the number of Puts and Skips since it was put

@@ -1,6 +1,6 @@
 -- A status report as it is built: a draft is opened, takes entries, and is closed with its ACK_SN. The bytes are in
 -- a buffer that is lent for each step.
-use Rattle.std.specs.Prelude.{ℕ, ◌+◌, ◌-◌, ◌*◌, ◌/◌, ◌%◌, true, cond, List, [], ◌∷◌, ◌++◌, length, take, drop, set, Ok, Err, Result, nat_lt, slice_set}
+use Rattle.std.specs.Prelude.{ℕ, ◌+◌, ◌-◌, ◌*◌, ◌/◌, ◌%◌, true, cond, List, [], ◌∷◌, length, take, drop, Ok, Err, Result, nat_lt, slice_set}
 use Rattle.protocol.specs.Bytes.{Bytes, byte, flag, put_at}
 use Rattle.protocol.specs.Pdus.{Entry, Pdu, encode_entry}
 use Rattle.protocol.specs.Reading.{in_order, decode}

@@ -1,5 +1,5 @@
 -- Worked examples: what the definitions say of given bytes and numbers.
-use Rattle.std.specs.Prelude.{◌≡◌, ℕ, true, false, List, [], ◌∷◌, ◌++◌, replicate, Some, Ok, Err, Result}
+use Rattle.std.specs.Prelude.{◌≡◌, true, false, [], ◌∷◌, Some, Ok, Err}
 use Rattle.protocol.specs.Bytes.{Bytes}
 use Rattle.protocol.specs.CutInThree as cut_in_three
 use Rattle.protocol.specs.GapsReported as gaps_reported
@@ -9,11 +9,10 @@ use Rattle.protocol.specs.PollsDelayed as polls_delayed
 use Rattle.protocol.specs.PollsRepeated as polls_repeated
 use Rattle.protocol.specs.ReorderingEnds as reordering_ends
 use Rattle.protocol.specs.Numbers.{sn_modulus, count_from, stale, pdcp_count, passed}
-use Rattle.protocol.specs.Pdus.{Pdu, Amd, Segment, whole, first, middle, last, every, span, amd, status, encode}
+use Rattle.protocol.specs.Pdus.{Pdu, first, middle, last, every, span, amd, status, encode}
 use Rattle.protocol.specs.Reading.{decode}
 use Rattle.protocol.specs.Refusals.{at}
 use Rattle.protocol.specs.declared.faults.End.TheVariants.{Near, Far}
-use Rattle.protocol.specs.declared.faults.Fault.{Fault}
 use Rattle.protocol.specs.declared.faults.Refusal.TheVariants.{Offset}
 
 -- these bytes are read as this PDU, and written for it

@@ -1,9 +1,9 @@
 -- The link: its calls, what each answers, leaves in both ends and in the lent buffer, and puts into an air.
-use Rattle.std.specs.Prelude.{ℕ, ◌+◌, ◌%◌, Bool, true, false, cond, not, ◌&&◌, ◌||◌, List, [], ◌∷◌, length, Some, None, Ok, Err, Option, Result, nat_le, nat_lt}
+use Rattle.std.specs.Prelude.{ℕ, ◌+◌, ◌%◌, Bool, cond, not, ◌||◌, List, [], ◌∷◌, length, Some, None, Ok, Err, Option, Result, nat_le, nat_lt}
 use Rattle.protocol.specs.Airs.{laid, max_pdu}
 use Rattle.protocol.specs.Bytes.{Bytes, put}
 use Rattle.protocol.specs.Numbers.{sn_modulus, stale}
-use Rattle.protocol.specs.Pdus.{Segment, whole, first, middle, last, Amd, Entry, Pdu, amd, status, encode}
+use Rattle.protocol.specs.Pdus.{Segment, whole, first, middle, last, Amd, Pdu, amd, status, encode}
 use Rattle.protocol.specs.Reading.{decode}
 use Rattle.protocol.specs.Receiving as far
 use Rattle.protocol.specs.Refusals.{at}

@@ -1,15 +1,15 @@
 -- A worked series: t-Reordering runs out more than once, SDUs are acknowledged out of order, the link fails.
-use Rattle.std.specs.Prelude.{◌≡◌, true, false, List, [], ◌∷◌, ◌++◌, replicate, Some, None, Option}
+use Rattle.std.specs.Prelude.{◌≡◌, true, false, List, [], ◌∷◌, ◌++◌, replicate, Some, None}
 use Rattle.protocol.specs.Bytes.{Bytes}
-use Rattle.protocol.specs.Links.{Link, Answer, new_link, accepted, sent, arrived, none, stale_report, taken, discarded, kept, handed_up, ticked, collected, nothing_due, refused}
-use Rattle.protocol.specs.Pdus.{Entry, every, span}
+use Rattle.protocol.specs.Links.{Answer, new_link, accepted, sent, arrived, none, taken, discarded, kept, handed_up, ticked, collected, nothing_due, refused}
+use Rattle.protocol.specs.Pdus.{every, span}
 use Rattle.protocol.specs.Receiving as far
 use Rattle.protocol.specs.Refusals.{at}
 use Rattle.protocol.specs.Sending as near
 use Rattle.protocol.specs.Series.{hex, Turn, gives, near_grant, far_grant, near_arrival, far_arrival, near_tick, far_tick, collects, Seen, Shown, play, shown}
 use Rattle.protocol.specs.Settings.{Settings}
-use Rattle.protocol.specs.Timers.{stopped, running, endless}
-use Rattle.protocol.specs.declared.faults.Refusal.TheVariants.{LinkFailed, WindowFull, GrantSize, PacketDue}
+use Rattle.protocol.specs.Timers.{stopped, running}
+use Rattle.protocol.specs.declared.faults.Refusal.TheVariants.{LinkFailed, GrantSize}
 
 abbrev pub settings : Settings
 settings =

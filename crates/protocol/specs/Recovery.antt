@@ -1,9 +1,9 @@
 -- A lawful series in which a packet is cut in three, its middle segment is lost, reported missing and sent again, and
 -- the packet is then collected and acknowledged: the delivery theorem does not hold for want of such series.
-use Rattle.std.specs.Prelude.{◌≡◌, ℕ, true, false, List, [], ◌∷◌, Some, None, Option}
+use Rattle.std.specs.Prelude.{◌≡◌, ℕ, List, [], ◌∷◌, Some, None, Option}
 use Rattle.protocol.specs.Airs.{Waiting}
 use Rattle.protocol.specs.Bytes.{Bytes}
-use Rattle.protocol.specs.Delivery.{accepted, collected, link_after, InTime, Finished}
+use Rattle.protocol.specs.Delivery.{collected, InTime, Finished}
 use Rattle.protocol.specs.Links.{Call, give, spend, arrive, tick, collect}
 use Rattle.protocol.specs.Runs.{Event, State, new_state, outcome, next, Lawful}
 use Rattle.protocol.specs.Series.{hex, room}

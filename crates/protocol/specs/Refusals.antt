@@ -1,5 +1,5 @@
 -- The sixteen refusals by number and layer. Their grounds are the rules that name them.
-use Rattle.std.specs.Prelude.{ℕ, Some, None, Ok, Err, Option, Result}
+use Rattle.std.specs.Prelude.{ℕ, Some, None, Err, Option, Result}
 use Rattle.protocol.specs.declared.faults.Fault.{Fault}
 use Rattle.protocol.specs.declared.faults.Layer.{Layer}
 use Rattle.protocol.specs.declared.faults.Layer.TheVariants.{Rlc, Pdcp, Link}

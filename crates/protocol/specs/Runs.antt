@@ -1,12 +1,11 @@
 -- Series of calls over two airs: which are lawful, and what they accept, collect and leave.
-use Rattle.std.specs.Prelude.{◌≡◌, ℕ, Bool, true, false, cond, ◌||◌, List, [], ◌∷◌, ◌++◌, length, take, Some, None, MatchBool, Option}
+use Rattle.std.specs.Prelude.{◌≡◌, Bool, false, ◌||◌, List, [], ◌∷◌, ◌++◌, take, Some, None, MatchBool, Option}
 use Rattle.protocol.specs.Airs.{Waiting, Within, after_put, Takes}
 use Rattle.protocol.specs.Bytes.{Bytes}
 use Rattle.protocol.specs.Links.{Link, Call, give, spend, arrive, tick, collect, read, Answer, accepted, sent, arrived, ticked, collected, nothing_due, refused, Outcome, new_link, does, something_due}
 use Rattle.protocol.specs.Reordering.{Stored, due}
 use Rattle.protocol.specs.Settings.{Settings}
 use Rattle.protocol.specs.Timers.{runs_out}
-use Rattle.protocol.specs.declared.faults.End.{End}
 use Rattle.protocol.specs.declared.faults.End.TheVariants.{Near, Far}
 
 -- a call, with what the airs did in it: what a Take let out, and what waits afterwards

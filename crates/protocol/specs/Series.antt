@@ -1,5 +1,5 @@
 -- Playing a series of calls by the rules, and showing what it did: for worked series.
-use Rattle.std.specs.Prelude.{ℕ, zero, suc, ◌+◌, ◌-◌, ◌*◌, ◌/◌, ◌%◌, ◌^◌, Bool, true, false, cond, ltb, List, [], ◌∷◌, ◌++◌, length, take, replicate, Some, None, Option}
+use Rattle.std.specs.Prelude.{ℕ, zero, suc, ◌-◌, ◌/◌, ◌%◌, ◌^◌, Bool, cond, List, [], ◌∷◌, length, take, replicate, Some, None, Option}
 use Rattle.protocol.specs.Airs.{max_pdu}
 use Rattle.protocol.specs.Bytes.{Bytes}
 use Rattle.protocol.specs.Links.{Link, Call, Answer, accepted, sent, arrived, ticked, collected, nothing_due, refused, Outcome, give, spend, arrive, tick, collect, does}

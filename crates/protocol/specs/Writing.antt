@@ -1,9 +1,9 @@
 -- What writing a PDU into a lent buffer answers, and what it leaves there.
-use Rattle.std.specs.Prelude.{ℕ, ◌+◌, ◌-◌, ◌*◌, ◌/◌, ◌%◌, Bool, true, false, cond, ◌||◌, List, [], ◌∷◌, ◌++◌, length, Some, None, Ok, Err, Option, Result, ◌==◌, nat_lt}
-use Rattle.protocol.specs.Bytes.{Bytes, byte, bit, flag, put, put_at}
-use Rattle.protocol.specs.Pdus.{Segment, Amd, Entry, Pdu, amd, status, si, so_field, encode, encode_entry, encode_status}
-use Rattle.protocol.specs.Reading.{offset_fault, valid, in_order, decode}
-use Rattle.protocol.specs.Refusals.{at, unless}
+use Rattle.std.specs.Prelude.{ℕ, ◌+◌, true, cond, List, [], ◌∷◌, length, Some, None, Ok, Err, Option, Result, ◌==◌, nat_lt}
+use Rattle.protocol.specs.Bytes.{Bytes, put}
+use Rattle.protocol.specs.Pdus.{Segment, Entry, Pdu, amd, status, so_field, encode, encode_entry}
+use Rattle.protocol.specs.Reading.{offset_fault, valid}
+use Rattle.protocol.specs.Refusals.{at}
 use Rattle.protocol.specs.declared.faults.End.{End}
 use Rattle.protocol.specs.declared.faults.End.TheVariants.{Near, Far}
 use Rattle.protocol.specs.declared.faults.Fault.{Fault}

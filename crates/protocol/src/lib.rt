@@ -3,6 +3,7 @@
 //!
 //! The only code is the vocabulary that definitions and code share: who reads, and what a refusal is.
 //! Each law stands on the contract of a small function, so that the crate is refused without its proof.
+#![tactic(auto)]
 
 mod faults;
 mod laws;

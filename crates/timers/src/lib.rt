@@ -1,4 +1,5 @@
 //! The settings of a link, and the timers that run by them.
+#![tactic(auto)]
 
 mod settings;
 mod timers;

@@ -1,8 +1,8 @@
 -- What the writer of AMD PDUs leaves in the buffer.
-use Rattle.std.proofs.Common.{◌≡◌, ℕ, ◌+◌, ◌≤◌, false, ltb, List, [], ◌∷◌, ◌++◌, length, drop, None, Ok, sym, refl, ap, ◌∙◌, append_assoc, zero-add, arith, length-append}
+use Rattle.std.proofs.Common.{◌≡◌, ◌+◌, ◌≤◌, false, ltb, [], ◌∷◌, ◌++◌, length, drop, None, Ok, sym, ap, ◌∙◌, append_assoc, zero-add, arith, length-append}
 use Rattle.protocol.proofs.Drafting.{put-put}
 use Rattle.protocol.specs.Bytes.{Bytes, byte, put, put_at}
-use Rattle.protocol.specs.Pdus.{Pdu, amd, encode, so_field}
+use Rattle.protocol.specs.Pdus.{amd, encode, so_field}
 use Rattle.protocol.specs.Writing.{pdu_fault, written, write}
 use Rattle.std.proofs.lemmas.Bool.{cond-false, le-ltb}
 use Rattle.wire.specs.Views.{amd_of, header_bytes, segment_of}

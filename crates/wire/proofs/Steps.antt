@@ -1,8 +1,8 @@
 -- Steps of the walk along the entries of a status report, from what `find_entry` answers.
-use Rattle.std.proofs.Common.{◌≡◌, ℕ, ◌+◌, ◌-◌, ◌%◌, ◌<◌, ◌≤◌, Bool, true, false, cond, not, ◌&&◌, eqb, ltb, List, [], ◌∷◌, length, drop, Some, None, Ok, Err, Option, Result, sym, refl, ap, ◌∙◌, arith, length-drop}
+use Rattle.std.proofs.Common.{◌≡◌, ℕ, ◌+◌, ◌-◌, ◌%◌, ◌<◌, ◌≤◌, Bool, true, false, cond, not, ◌&&◌, eqb, ltb, ◌∷◌, length, drop, Some, None, Ok, Err, Option, Result, sym, refl, ap, ◌∙◌, arith, length-drop}
 use Rattle.protocol.proofs.Walks.{along_step, listing_anywhere, some_none}
 use Rattle.protocol.specs.Bytes.{Bytes, byte, word}
-use Rattle.protocol.specs.Pdus.{Entry, Pdu, status}
+use Rattle.protocol.specs.Pdus.{Pdu, status}
 use Rattle.protocol.specs.Reading.{Visit, along, listing, whole_entries, valid_entries, valid as valid_entry, entry_length, entry_of, e1_of, e3_of, e1_field, sn_field, read_status}
 use Rattle.protocol.specs.Refusals.{at, unless}
 use Rattle.protocol.specs.declared.faults.Fault.{Fault}

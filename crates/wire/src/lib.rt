@@ -1,5 +1,6 @@
 //! PDUs as bytes: sequence numbers, a reader of received PDUs, and writers into lent buffers; and the grants
 //! that let an end send one.
+#![tactic(auto)]
 
 mod bits;
 mod counts;

@@ -1,5 +1,5 @@
 -- The report is read as `check_entries` found its entries.
-use Rattle.std.proofs.Common.{◌≡◌, ℕ, ◌%◌, ◌<◌, ◌≤◌, Bool, length, take, drop, Ok, Err, Result, sym, ap, ◌∙◌, subst, arith}
+use Rattle.std.proofs.Common.{◌≡◌, ℕ, ◌%◌, ◌<◌, ◌≤◌, Bool, length, drop, Ok, Err, Result, sym, ap, ◌∙◌, subst, arith}
 use Rattle.protocol.specs.Bytes.{Bytes, byte}
 use Rattle.protocol.specs.Pdus.{status}
 use Rattle.protocol.specs.Reading.{along, listing, e1_field, sn_field, read_status}

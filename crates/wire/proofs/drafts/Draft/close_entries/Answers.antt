@@ -1,5 +1,5 @@
 -- The report is closed as the reader judges its sealed bytes; a refusal writes the old ones back.
-use Rattle.std.proofs.Common.{◌≡◌, ◌+◌, ◌≤◌, true, ◌∷◌, drop, set, Ok, Err, sym, ap, ◌∙◌, arith}
+use Rattle.std.proofs.Common.{◌+◌, true, ◌∷◌, drop, set, Ok, Err, ap, ◌∙◌, arith}
 use Rattle.protocol.specs.Bytes.{byte}
 use Rattle.wire.proofs.Sealing.{closes_by, restored}
 use Rattle.wire.proofs.drafts.Draft.close_entries.Goals as goal
