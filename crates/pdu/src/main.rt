@@ -2,6 +2,8 @@
 //! reads in hexadecimal, `-` for none. The answer is the PDU's fields or its refusal, and whether what was
 //! read gives the same bytes when it is written back.
 
+#![tactic(auto)]
+
 mod contents;
 mod differences;
 mod names;

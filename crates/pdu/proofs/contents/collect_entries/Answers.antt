@@ -6,7 +6,7 @@ use Rattle.wire.specs.Views.{entry_of}
 pub loop-entry-preserved : goal.loop-entry-preserved
 loop-entry-preserved c =
     let taken = vec_items c.loop-entry.list in
-    rw c.in-ok-push.ensures.items
+    rw c.in_ok-push.ensures.items
     (one_more entry_of taken c.in-Some.entry _
     ∙ ap (λ rest. map entry_of taken ++ rest) (sym (front_is _ _ _ c.in-Some.ensures))
     ∙ c.loop-entry.invariant

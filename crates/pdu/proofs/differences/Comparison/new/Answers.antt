@@ -11,5 +11,5 @@ pub returns : goal.returns
 returns c = (
   search rules,
   (λ same. false≢true (sym c.if-eq.false ∙ (slice_eq-Decides Decides-eqb _ _ _ c.eq.ensures).1 same)),
-  c.in-ok-differences.ensures,
+  c.in_ok-differences.ensures,
 )
