@@ -1,3 +1,6 @@
 pub mod Emptied
+pub mod Notes
+pub mod Fronts
 pub mod Pushes
+pub mod Lets
 pub mod Masks

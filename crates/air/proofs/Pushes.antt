@@ -1,7 +1,8 @@
 -- A queue with room after a PDU was written to its first free place.
 use Rattle.std.proofs.Common.{◌≡◌, ℕ, ◌+◌, ◌-◌, ◌<◌, ◌≤◌, List, [], ◌∷◌, ◌++◌, map, length, get_or, take, drop, set, sym, refl, ap, ◌∙◌, subst, ⊎_elim, arith, length-append, length-drop, length-set}
-use Rattle.air.specs.Fronts.{Parts, length_held, held_at}
-use Rattle.air.specs.Notes.{each_placed, pairs_placed, place_set, each_push, older_push, map_other}
+use Rattle.air.specs.Soundness.{length_held, held_at}
+use Rattle.air.proofs.Fronts.{Parts}
+use Rattle.air.proofs.Notes.{each_placed, pairs_placed, place_set, each_push, older_push, map_other}
 use Rattle.air.specs.Kept.{newest}
 use Rattle.air.specs.Queues.{Each, Pairs, Stored, Carried, Older, capacity, no_entry, waiting_at}
 use Rattle.air.specs.Waits.{held_entries, waits}
@@ -52,22 +53,15 @@ module _ (q : Queue) (pdu : Bytes) (room : q.held < capacity) (carried : (1 ≤ 
       let fs = set q.entries q.held (noted q pdu) in
       let long = length-set q.entries q.held (noted q pdu) in
       let same = place_set q.entries q.held (noted q pdu) refl in
-      let new : Carried (noted q pdu) = (carried.0, carried.1, omega arith) in (
-        subst Stored (sym is) stored,
-        (
-          (long ∙ q.bounded.0, omega arith),
-          (
-            each_placed q.entries fs long same q.placed,
-            (
-              pairs_placed q.entries fs long same q.apart,
-              (
-                subst (λ es. Each Carried es) (sym front) (each_push Carried (held_entries q) (noted q pdu) q.carried new),
-                (subst (λ es. Pairs Older es) (sym front) (older_push (held_entries q) (noted q pdu) q.older old refl), tt),
-              ),
-            ),
-          ),
-        ),
-      )
+      let new : Carried (noted q pdu) = (carried.0, carried.1, omega arith) in
+      record {
+        room = subst Stored (sym is) stored;
+        bounded = (long ∙ q.bounded.0, omega arith);
+        placed = each_placed q.entries fs long same q.placed;
+        apart = pairs_placed q.entries fs long same q.apart;
+        carried = subst (λ es. Each Carried es) (sym front) (each_push Carried (held_entries q) (noted q pdu) q.carried new);
+        older = subst (λ es. Pairs Older es) (sym front) (older_push (held_entries q) (noted q pdu) q.older old refl);
+      }
 
   others : Each (λ e. e.place ≡ free q → ⊥) (held_entries q)
   others i lt e =

@@ -3,6 +3,4 @@ pub mod Queues
 pub mod Waits
 pub mod Kept
 pub mod Fading
-pub mod Lets
-pub mod Fronts
-pub mod Notes
+pub mod Soundness

@@ -63,7 +63,7 @@ pub(crate) fn takes(draw: u16, buffer: &[u8]) -> bool
 
 /// Makes 64 Skips, after which nothing waits.
 pub fn empty<A: Air>(air: &mut A)
-    ensures { waiting air.new ≡ [] }
+    ensures { A.waiting air.new ≡ [] }
 {
     for _ in 0..AGE_LIMIT {
         air.skip();

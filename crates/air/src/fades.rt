@@ -3,7 +3,6 @@
 ghost use Rattle.std.specs.Prelude.{◌≡◌, ◌<◌, MatchBool};
 ghost use Rattle.air.specs.Fading.{passes, number_after};
 ghost use Rattle.protocol.specs.Airs.{Within, aged, after_put};
-ghost use Rattle.std.proofs.Common.{rules, arith};
 
 use crate::airs::{Air, carries};
 
@@ -63,7 +62,7 @@ impl<A: Air> Air for Fade<A> {
     ghost gives = { λ f draw buffer answer written f'.
         A.Air.gives f.below draw buffer answer written f'.below × (f'.mask ≡ f.mask) × (f'.number ≡ f.number) };
 
-    ghost sound = { first_of (Prim.search rules, Prim.grind (arith, Self.row.coded.inj)) };
+    ghost sound = { λ f. A.Air.sound f.below };
 
     fn put(&mut self, pdu: &[u8]) {
         if !carries(pdu) {

@@ -3,6 +3,8 @@
 //! A pipe keeps the order of its PDUs, a pool repeats and reorders them, and a fade over another air
 //! loses those that its mask says. What waits in each is stated by the definitions in `specs/`.
 
+#![tactic(auto)]
+
 mod airs;
 mod entries;
 mod fades;

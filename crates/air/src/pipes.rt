@@ -6,7 +6,7 @@ ghost use Rattle.air.specs.Waits.{waits};
 ghost use Rattle.protocol.specs.Airs.{aged};
 ghost use Rattle.std.specs.Option.{option_map};
 ghost use Rattle.std.specs.List.{slice_get};
-ghost use Rattle.air.specs.Lets.{sound_waits};
+ghost use Rattle.air.specs.Soundness.{sound_waits};
 
 use crate::airs::Air;
 use crate::queues::Queue;

@@ -1,5 +1,5 @@
 use Rattle.std.proofs.Common.{None, arith}
-use Rattle.air.specs.Lets.{took_none, took_answers}
+use Rattle.air.proofs.Lets.{took_none, took_answers}
 use Rattle.air.proofs.pools.PoolAir.take.Goals as goal
 use Rattle.air.specs.Kept.{drawn, odd}
 use Rattle.air.specs.Waits.{waits}

@@ -1,6 +1,6 @@
 use Rattle.std.proofs.Common.{◌+◌, ◌<◌, length, sym, refl, ap, ◌∙◌, subst, arith}
-use Rattle.air.specs.Fronts.{length_held, held_at}
-use Rattle.air.specs.Notes.{map_removed, aged_expired, young_rest, young_all}
+use Rattle.air.specs.Soundness.{length_held, held_at}
+use Rattle.air.proofs.Notes.{map_removed, aged_expired, young_rest, young_all}
 use Rattle.air.proofs.queues.Queue.expire.Goals as goal
 use Rattle.air.proofs.queues.Queue.expire.Goals.{else-self-gt0-via-then-self-gt0+else-self-eq-AGE_LIMIT, else-self-gt0-via-else-self-gt0}
 use Rattle.air.specs.Queues.{Each, waiting_at}

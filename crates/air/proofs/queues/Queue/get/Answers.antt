@@ -1,5 +1,6 @@
 use Rattle.std.proofs.Common.{◌≡◌, ℕ, ◌-◌, ◌≤◌, [], get_or, take, Some, Option, sym, ap, ◌∙◌, arith, rules}
-use Rattle.air.specs.Fronts.{length_held, length_waits, held_at, nth_waits}
+use Rattle.air.specs.Soundness.{length_held, held_at}
+use Rattle.air.proofs.Fronts.{length_waits, nth_waits}
 use Rattle.air.proofs.queues.Queue.get.Goals as goal
 use Rattle.air.specs.Queues.{no_entry}
 use Rattle.air.specs.Waits.{waits}

@@ -1,7 +1,7 @@
 use Rattle.std.proofs.Common.{◌≡◌, ◌+◌, ◌-◌, ◌<◌, ◌≤◌, ◌++◌, map, take, drop, sym, ap, ◌∙◌, subst, arith}
-use Rattle.air.specs.Fronts.{Parts, take_raised, parts_raised}
-use Rattle.air.specs.Lets.{within_aged}
-use Rattle.air.specs.Notes.{each_raised, aged_raised}
+use Rattle.air.proofs.Fronts.{Parts, take_raised, parts_raised}
+use Rattle.air.proofs.Lets.{within_aged}
+use Rattle.air.proofs.Notes.{each_raised, aged_raised}
 use Rattle.air.proofs.queues.Queue.grow_older.Goals as goal
 use Rattle.air.specs.Queues.{Each, raised, waiting_at}
 use Rattle.air.specs.Waits.{held_entries, waits}
@@ -17,7 +17,8 @@ pub invariant_of-self : goal.invariant_of-self
 invariant_of-self c =
     let q = c.expire.new.self in
     let n = q.held - 0 in
-    subst (λ es. Parts q.store (es ++ drop n q.entries) q.held) (sym c.raise.ensures) (parts_raised q n (omega arith) c.expire.ensures.young)
+    let p = subst (λ es. Parts q.store (es ++ drop n q.entries) q.held) (sym c.raise.ensures) (parts_raised q n (omega arith) c.expire.ensures.young) in
+    record { room = p.room; bounded = p.bounded; placed = p.placed; apart = p.apart; carried = p.carried; older = p.older }
 
 pub returns : goal.returns
 returns c =

@@ -1,5 +1,5 @@
 use Rattle.std.proofs.Common.{sym}
-use Rattle.air.specs.Fronts.{length_waits}
+use Rattle.air.proofs.Fronts.{length_waits}
 use Rattle.air.proofs.queues.Queue.len.Goals as goal
 
 pub returns : goal.returns

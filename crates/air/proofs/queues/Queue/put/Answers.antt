@@ -1,7 +1,8 @@
 use Rattle.std.proofs.Common.{◌≡◌, ◌<◌, ◌≤◌, [], ◌∷◌, ◌++◌, sym, ap, ◌∙◌, subst, arith}
-use Rattle.air.specs.Fronts.{length_held, length_waits}
-use Rattle.air.specs.Lets.{within_put}
-use Rattle.air.specs.Notes.{each_removed}
+use Rattle.air.specs.Soundness.{length_held}
+use Rattle.air.proofs.Fronts.{length_waits}
+use Rattle.air.proofs.Lets.{within_put}
+use Rattle.air.proofs.Notes.{each_removed}
 use Rattle.air.proofs.Pushes.{newest-short, newest-room, newest_full}
 use Rattle.air.proofs.queues.Queue.put.Goals as goal
 use Rattle.air.proofs.queues.Queue.put.Goals.{then-self-eq-CAPACITY, else-self-eq-CAPACITY}

@@ -1,6 +1,7 @@
 use Rattle.std.proofs.Common.{◌≡◌, ◌<◌, true, leb, length, Some, None, sym, ◌∙◌, arith}
-use Rattle.air.specs.Fronts.{length_waits}
-use Rattle.air.specs.Lets.{sound_waits, nth_within, all_nth, took_none, took_some, took_answers}
+use Rattle.air.proofs.Fronts.{length_waits}
+use Rattle.air.specs.Soundness.{sound_waits}
+use Rattle.air.proofs.Lets.{nth_within, all_nth, took_none, took_some, took_answers}
 use Rattle.air.proofs.queues.Queue.take.Goals as goal
 use Rattle.air.specs.Kept.{left_by}
 use Rattle.air.specs.Waits.{waits}

@@ -3,7 +3,7 @@ use Rattle.air.proofs.queues.edits.raise.Goals as goal
 use Rattle.air.specs.Queues.{raised, no_entry}
 use Rattle.std.proofs.lemmas.List.Edits.{map_over_more}
 use Rattle.std.proofs.lemmas.List.{take_all, drop_all, append-nil, get_or_default}
-use Rattle.air.specs.Notes.{age_ahead}
+use Rattle.air.proofs.Notes.{age_ahead}
 
 pub overflow_add-entry : goal.overflow_add-entry
 overflow_add-entry c =

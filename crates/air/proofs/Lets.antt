@@ -1,39 +1,15 @@
 -- What pipe and pool let out and leave, and that every air may.
-use Rattle.std.specs.Prelude.{◌≡◌, ℕ, zero, suc, ◌-◌, ◌<◌, ◌≤◌, Bool, true, false, cond, List, [], ◌∷◌, length, get_or, take, IfSome, Some, None, MatchBool, Option, nat_le, slice_index_or, refl}
+use Rattle.std.specs.Prelude.{◌≡◌, ℕ, zero, suc, ◌-◌, ◌<◌, ◌≤◌, Bool, true, false, cond, List, [], ◌∷◌, length, IfSome, Some, None, MatchBool, Option, nat_le, refl}
 use Rattle.std.proofs.Common.{sym, ◌∙◌, ap, subst, arith}
-use Rattle.air.specs.Fronts.{length_held, held_at}
 use Rattle.air.specs.Kept.{pdu_at, left_by, out_at, put_in, Took}
 use Rattle.air.specs.Meaning.{Sound, Answers}
-use Rattle.air.specs.Queues.{capacity, no_entry, waiting_at}
-use Rattle.air.specs.Waits.{held_entries, waits}
-use Rattle.air.specs.declared.queues.Queue.{Queue}
+use Rattle.air.specs.Queues.{capacity}
 use Rattle.protocol.proofs.Strikes.{within_all, within_none, within_removed, within_drop, all_within}
 use Rattle.protocol.specs.Airs.{Waiting, Within, kept, struck, max_pdu, max_draw, age_limit, carries, LetsOut, Takes, takes, laid, aged, after_put}
 use Rattle.protocol.specs.Bytes.{Bytes, put}
-use Rattle.std.proofs.ByRecursion.{All-from_get_or, All-map}
-use Rattle.std.proofs.lemmas.List.{length-take-le}
-use Rattle.std.proofs.lemmas.Bool.{cond-true, le-leb, leb-true, and_from, and_parts}
+use Rattle.std.proofs.lemmas.Bool.{cond-true, leb-true, and_parts}
 use Rattle.std.specs.Option.{option_map}
 use Rattle.std.specs.List.{remove, AllByRecursion as All, slice_get}
-
--- what waits in a queue is sound -----------------------------------------------------------------------------------
-
-sound_at : (q : Queue) (i : ℕ) → i < length (held_entries q)
-    → (carries (waiting_at q.store (slice_index_or (held_entries q) i no_entry)).pdu ≡ true) × ((get_or (held_entries q) i no_entry).age < age_limit)
-sound_at q i lt =
-    let e = get_or (held_entries q) i no_entry in
-    let is : e.place ≡ (get_or q.entries i no_entry).place = ap (λ f. f.place) (held_at q i (omega (arith, length_held q))) in
-    let place : e.place < capacity = omega (arith, is, q.placed i (omega (arith, length_held q, q.bounded.0, q.bounded.1))) in
-    let good = q.carried i lt in
-    let n : ℕ = length (take e.length (slice_index_or q.store e.place [])) in
-    let long : n ≡ e.length =
-    length-take-le e.length (slice_index_or q.store e.place []) (omega (arith, good.1, q.room.1 e.place place)) in
-    (and_from (nat_le 1 n) (nat_le n max_pdu) (le-leb 1 n (omega (arith, good.0, long))) (le-leb n max_pdu (omega (arith, good.1, long))), good.2)
-
-pub sound_waits : (q : Queue) → Sound (waits q)
-sound_waits q =
-    All-map (λ w. (carries w.pdu ≡ true) × (w.age < age_limit)) (waiting_at q.store) (held_entries q)
-    (All-from_get_or (λ e. (carries (waiting_at q.store e).pdu ≡ true) × (e.age < age_limit)) (held_entries q) no_entry (sound_at q))
 
 -- the k-th ---------------------------------------------------------------------------------------------------------
 
