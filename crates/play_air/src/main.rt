@@ -2,6 +2,8 @@
 //! `take DRAW`, with the mask and the bytes in hexadecimal. Each Take prints what it lets out, and each
 //! line prints what waits, oldest first, as `BYTES@AGE`. Before the first `air` line stands a pipe that fades nothing.
 
+#![tactic(auto)]
+
 mod carriers;
 mod scripts;
 

@@ -1,5 +1,5 @@
 use Rattle.std.proofs.Common.{ℕ, ◌≤◌, IfSome, Some, None, Option}
-use Rattle.air.specs.Lets.{Fits, answer_fits}
+use Rattle.air.proofs.Lets.{Fits, answer_fits}
 use Rattle.play_air.proofs.carriers.take_from.Goals as goal
 use Rattle.protocol.specs.Bytes.{Bytes}
 
