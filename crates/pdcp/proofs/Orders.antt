@@ -1,5 +1,5 @@
 -- Packets in the order of COUNT, and the search for the next COUNT that is not stored.
-use Rattle.std.proofs.Common.{◌≡◌, ℕ, suc, ◌+◌, ◌-◌, ◌<◌, ◌≤◌, Bool, true, false, cond, not, eqb, ltb, ◌⊎◌, List, [], ◌∷◌, sym, refl, ap, ◌∙◌, ⊎_elim, arith}
+use Rattle.std.proofs.Common.{◌≡◌, ℕ, suc, ◌+◌, ◌-◌, ◌<◌, ◌≤◌, Bool, true, false, cond, not, eqb, ltb, List, [], ◌∷◌, sym, refl, ap, ◌∙◌, ⊎_elim, arith}
 use Rattle.pdcp.specs.Stores.{Below}
 use Rattle.protocol.proofs.PdcpKept.{insert-stored}
 use Rattle.protocol.proofs.Seeks.{seek-from, seek_to}

@@ -1,5 +1,5 @@
 -- A ring of places as a function of COUNTs, and the window that it shows.
-use Rattle.std.proofs.Common.{◌≡◌, ℕ, suc, ◌+◌, ◌-◌, ◌*◌, ◌%◌, ◌<◌, ◌≤◌, Bool, true, false, cond, eqb, ltb, leb, ◌⊎◌, List, [], ◌++◌, map, length, get_or, set, is_some, Some, None, Option, sym, refl, ap, ◌∙◌, subst, ⊎_elim, arith}
+use Rattle.std.proofs.Common.{◌≡◌, ℕ, suc, ◌+◌, ◌-◌, ◌*◌, ◌%◌, ◌<◌, ◌≤◌, Bool, true, false, cond, eqb, ltb, leb, List, [], ◌++◌, map, length, get_or, set, is_some, Some, None, Option, sym, refl, ap, ◌∙◌, subst, ⊎_elim, arith}
 use Rattle.pdcp.proofs.Listings.{stored-found, listed_same, listed_none, listed_split, found_outside, found_at, listed-insert, listed-without}
 use Rattle.pdcp.specs.Places.{Each, has_place, noted, packet_in, no_place, under, listed, copied_out}
 use Rattle.pdcp.specs.Stores.{held_in, Near, found, taken, taken_if, without, lowest_of}

@@ -2,6 +2,7 @@
 //! its order.
 //!
 //! `Receiver` keeps the rules, its store the memory: the rules know packets by COUNT only.
+#![tactic(auto)]
 
 mod headers;
 mod places;

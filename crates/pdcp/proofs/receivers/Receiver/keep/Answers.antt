@@ -18,14 +18,14 @@ insert-requires c =
       short = c.requires.short;
     }
 
-pub invariant-of-self : goal.invariant-of-self
-invariant-of-self c =
+pub invariant_of-self : goal.invariant_of-self
+invariant_of-self c =
     let r = c.args.self.now in
     let below = subst (Below (r.rx_deliv.value + 16)) (sym c.insert.ensures) (below-insert (r.rx_deliv.value + 16) _ (stored_of r.store) r.within c.requires.to) in
-    (omega arith, (omega arith, (omega arith, (r.timed, (below, tt)))))
+    record { delivered = omega arith; begun = omega arith; limited = omega arith; timed = r.timed; within = below }
 
-pub invariant-of-self-else-value : goal.invariant-of-self-else-value
-invariant-of-self-else-value c =
+pub invariant_of-self-else-value : goal.invariant_of-self-else-value
+invariant_of-self-else-value c =
     let r = c.args.self.now in
     let below = subst (Below (r.rx_deliv.value + 16)) (sym c.insert.ensures) (below-insert (r.rx_deliv.value + 16) _ (stored_of r.store) r.within c.requires.to) in
-    (r.delivered, (r.begun, (r.limited, (r.timed, (below, tt)))))
+    record { delivered = r.delivered; begun = r.begun; limited = r.limited; timed = r.timed; within = below }

@@ -6,7 +6,7 @@ use Rattle.pdcp.specs.Places.{has_place, under}
 pub returns-then-reaches : goal.returns-then-reaches
 returns-then-reaches c =
     let s = c.args.self.now in
-    c.is-full.ensures ∙ ap (λ n. is_some (under s.places n)) c.value-then-reaches.ensures
+    c.is_full.ensures ∙ ap (λ n. is_some (under s.places n)) c.value-then-reaches.ensures
     ∙ sym (stored-inside s.places s.first c.args.count.value (ap (has_place s.first) (sym c.value.ensures) ∙ sym c.if-reaches.ensures))
 
 pub returns-else-reaches : goal.returns-else-reaches

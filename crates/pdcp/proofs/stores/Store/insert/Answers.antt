@@ -10,17 +10,17 @@ reach-requires c =
     let same = c.value.ensures in
     record { near = λ k is. let close = c.requires.near k is in (omega (arith, same, close.0), omega (arith, same, close.1)); limit = omega (arith, same, c.requires.limit) }
 
-pub invariant-of-self : goal.invariant-of-self
-invariant-of-self c =
+pub invariant_of-self : goal.invariant_of-self
+invariant_of-self c =
     let s = c.reach.new.self in
     let i = c.value-2.result % 16 in
-    let room = c.fill.ensures.room in (
-      length-set s.places i c.fill.new.self ∙ s.sized,
-      (
-        each_set Wide s.places i c.fill.new.self s.sized s.wide room.0,
-        (each_set Inside s.places i c.fill.new.self s.sized s.inside room.1, (s.low, tt)),
-      ),
-    )
+    let room = c.fill.ensures.room in
+    record {
+      sized = length-set s.places i c.fill.new.self ∙ s.sized;
+      wide = each_set Wide s.places i c.fill.new.self s.sized s.wide room.0;
+      inside = each_set Inside s.places i c.fill.new.self s.sized s.inside room.1;
+      low = s.low;
+    }
 
 pub returns : goal.returns
 returns c =

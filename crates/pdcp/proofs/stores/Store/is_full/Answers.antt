@@ -5,4 +5,4 @@ use Rattle.pdcp.proofs.stores.Store.is_full.Goals as goal
 pub returns : goal.returns
 returns c =
     let s = c.args.self.now in
-    c.is-full.ensures ∙ ap is_some (sym (under_is s.places c.args.count s.sized))
+    c.is_full.ensures ∙ ap is_some (sym (under_is s.places c.args.count s.sized))

@@ -13,17 +13,17 @@ returns-then-not-reaches c =
     let none = found_none s.places s.first n (out_of_window s.first n out) in
     ap (λ o. taken_if o n c.args.buffer.now (stored_of s)) (sym none) ∙ ap (λ m. taken m c.args.buffer.now (stored_of s)) c.value.ensures
 
-pub invariant-of-self : goal.invariant-of-self
-invariant-of-self c =
+pub invariant_of-self : goal.invariant_of-self
+invariant_of-self c =
     let s = c.args.self.now in
     let i = c.value-2.result % 16 in
-    let room = c.copy-out.ensures.room in (
-      length-set s.places i c.copy-out.new.self ∙ s.sized,
-      (
-        each_set Wide s.places i c.copy-out.new.self s.sized s.wide room.0,
-        (each_set Inside s.places i c.copy-out.new.self s.sized s.inside room.1, (s.low, tt)),
-      ),
-    )
+    let room = c.copy_out.ensures.room in
+    record {
+      sized = length-set s.places i c.copy_out.new.self ∙ s.sized;
+      wide = each_set Wide s.places i c.copy_out.new.self s.sized s.wide room.0;
+      inside = each_set Inside s.places i c.copy_out.new.self s.sized s.inside room.1;
+      low = s.low;
+    }
 
 pub returns : goal.returns
 returns c =
@@ -33,6 +33,6 @@ returns c =
     let reached : has_place s.first c.value.result ≡ true = sym c.if-not-reaches.ensures in
     let within = and_parts _ _ reached in
     held-taken s.places s.first n s.sized (subst (λ m. s.first ≤ m) same (leb-true _ _ within.0)) (subst (λ m. m < s.first + 16) same (ltb-true _ _ within.1))
-    c.copy-out.new.self c.copy-out.result c.args.buffer.now c.copy-out.new.buffer
-    (c.copy-out.ensures.value ∙ ap (λ o. copied_out o c.args.buffer.now) (sym (under_is s.places n s.sized)))
+    c.copy_out.new.self c.copy_out.result c.args.buffer.now c.copy_out.new.buffer
+    (c.copy_out.ensures.value ∙ ap (λ o. copied_out o c.args.buffer.now) (sym (under_is s.places n s.sized)))
     ∙ ap (λ m. taken m c.args.buffer.now (stored_of s)) c.value-2.ensures
