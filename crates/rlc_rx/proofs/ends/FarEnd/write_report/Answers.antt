@@ -1,4 +1,4 @@
-use Rattle.std.proofs.Common.{◌≡◌, ℕ, ◌+◌, ◌-◌, ◌%◌, ◌<◌, ◌≤◌, length, Ok, Err, Result, sym, ap, ◌∙◌, arith}
+use Rattle.std.proofs.Common.{◌≡◌, ℕ, ◌+◌, ◌%◌, ◌<◌, ◌≤◌, length, Ok, Err, Result, sym, ap, ◌∙◌, arith}
 use Rattle.protocol.specs.Drafts.{Draft, Step, opened, fill, close}
 use Rattle.protocol.specs.Receiving as far
 use Rattle.protocol.specs.declared.faults.Fault.{Fault}

@@ -2,7 +2,7 @@ use Rattle.std.proofs.Common.{◌≡◌, ℕ, ◌-◌, ◌%◌, Err, Result, sym
 use Rattle.protocol.specs.Drafts.{Step, add, fill}
 use Rattle.protocol.specs.Pdus.{Entry, every, span}
 use Rattle.protocol.specs.Receiving.{sdu_entries}
-use Rattle.rlc_rx.proofs.Stretches.{Lasts, left, lasts_first, fills_on, fills_stop, left_less, limit-short, entries_none, entries-some, fill_one}
+use Rattle.rlc_rx.proofs.Stretches.{Lasts, lasts_first, fills_on, fills_stop, left_less, limit-short, entries_none, entries-some, fill_one}
 use Rattle.rlc_rx.proofs.slots.Slot.add_entries.Goals as goal
 use Rattle.rlc_rx.specs.Gaps.{stretch_of, gaps_on}
 use Rattle.rlc_rx.specs.Slots.{partial_of}

@@ -1,6 +1,6 @@
 use Rattle.std.proofs.Common.{◌+◌, ◌-◌, sym, ap, ◌∙◌, subst, arith}
 use Rattle.protocol.specs.Receiving.{sdu_entries, entries_length}
-use Rattle.rlc_rx.proofs.Stretches.{Lasts, Few, left, lasts_first, few_first, counts_on, left_less, limit-short, entries_none, entries-some}
+use Rattle.rlc_rx.proofs.Stretches.{Lasts, Few, lasts_first, few_first, counts_on, left_less, limit-short, entries_none, entries-some}
 use Rattle.rlc_rx.proofs.slots.Slot.entries_length.Goals as goal
 use Rattle.rlc_rx.specs.Gaps.{stretch_of, gaps_on}
 use Rattle.rlc_rx.specs.Slots.{partial_of}
