@@ -1,8 +1,8 @@
 -- t-Reassembly runs out, from what the parts of the code say of it.
-use Rattle.std.proofs.Common.{◌≡◌, ℕ, ◌+◌, ◌-◌, ◌≤◌, Bool, true, false, cond, not, ◌&&◌, ◌||◌, eqb, ltb, List, refl, ap, ◌∙◌, arith}
+use Rattle.std.proofs.Common.{◌≡◌, ℕ, ◌+◌, ◌≤◌, Bool, true, false, cond, ◌&&◌, ◌||◌, eqb, ltb, List, refl, ap, ◌∙◌, arith}
 use Rattle.protocol.specs.Receiving as far
 use Rattle.protocol.specs.Settings.{Settings}
-use Rattle.protocol.specs.Timers.{Timer, runs, running, stopped}
+use Rattle.protocol.specs.Timers.{Timer, running, stopped}
 use Rattle.rlc_rx.specs.Windows.{sdus_in, open_from, far_in, Cleared}
 use Rattle.rlc_rx.proofs.Moves.{open_low, open_high, open_open}
 use Rattle.rlc_rx.proofs.Places.{window_unseen, polls-answered}

@@ -1,4 +1,5 @@
 //! RLC's receiving side at the far end: it puts SDUs together from segments and reports what is missing.
+#![tactic(auto)]
 
 mod advances;
 mod checks;

@@ -47,7 +47,7 @@ fn segments_become_an_sdu(rt: HostRuntime) -> Result<(), Fail> {
     let Reception::HandedUp(sdu) = reception else {
         return Err(Fail::new("not handed up"));
     };
-    assert!(rt; end.sdu(&sdu) == [0x80, 0, 0x41, 0x42, 0x43]);
+    assert!(rt; end.sdu(&sdu) == [0x80, 0, 0x41, 0x42, 0x43].as_slice());
     let mut buffer = [0; 16];
     assert_eq!(rt; reported(&mut end, &mut buffer), 3);
     assert!(rt; buffer[0] == 0 && buffer[1] == 1 && buffer[2] == 0);

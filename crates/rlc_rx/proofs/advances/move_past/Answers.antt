@@ -1,4 +1,4 @@
-use Rattle.std.proofs.Common.{◌-◌, ◌∙◌, arith}
+use Rattle.std.proofs.Common.{◌∙◌, arith}
 use Rattle.rlc_rx.proofs.advances.move_past.Goals as goal
 
 pub advance-requires : goal.advance-requires

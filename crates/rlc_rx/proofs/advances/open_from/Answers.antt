@@ -8,9 +8,9 @@ use Rattle.rlc_rx.proofs.advances.open_from.Goals as goal
 use Rattle.rlc_rx.specs.Slots.{partials}
 use Rattle.wire.specs.Views.{count_of}
 
-pub overflow-sub-found : goal.overflow-sub-found
-overflow-sub-found c =
-    omega (arith, c.incomplete-from-found.ensures, seek-from (λ y. not (complete (in_ring (partials c.args.slots.now) y nothing_held))) (c.value.result - c.value-start.result) c.value-start.result)
+pub overflow_sub-found : goal.overflow_sub-found
+overflow_sub-found c =
+    omega (arith, c.incomplete_from-found.ensures, seek-from (λ y. not (complete (in_ring (partials c.args.slots.now) y nothing_held))) (c.value.result - c.value-start.result) c.value-start.result)
 
 pub returns : goal.returns
 returns c =
@@ -18,8 +18,8 @@ returns c =
     let high = count_of c.args.counters.rx_next_highest in
     let x = count_of c.args.from in
     let ring = partials c.args.slots.now in
-    let found = c.incomplete-from-found.ensures ∙ ap (λ z. seek (λ y. not (complete (in_ring ring y nothing_held))) (z - c.value-start.result) c.value-start.result) c.value.ensures
+    let found = c.incomplete_from-found.ensures ∙ ap (λ z. seek (λ y. not (complete (in_ring ring y nothing_held))) (z - c.value-start.result) c.value-start.result) c.value.ensures
     ∙ ap (λ z. seek (λ y. not (complete (in_ring ring y nothing_held))) (high - z) z) c.value-start.ensures in
-    let low : x ≤ c.incomplete-from-found.result = omega (arith, found, seek-from (λ y. not (complete (in_ring ring y nothing_held))) (high - x) x) in
-    let reached : count_of c.later.result ≡ c.incomplete-from-found.result = omega (arith, c.later.ensures, c.value-start.ensures, low) in
+    let low : x ≤ c.incomplete_from-found.result = omega (arith, found, seek-from (λ y. not (complete (in_ring ring y nothing_held))) (high - x) x) in
+    let reached : count_of c.later.result ≡ c.incomplete_from-found.result = omega (arith, c.later.ensures, c.value-start.ensures, low) in
     reached ∙ found ∙ open_is next high x ring c.requires.from

@@ -19,8 +19,8 @@ returns c =
     let part : length (take k (drop offset held)) ≡ n =
     length-take-le k (drop offset held) (omega (arith, length-drop offset held, c.requires.room, c.requires.sizes)) ∙ sym same in
     let flags : c.fill.new.self ≡ replicate n true = c.fill.ensures.after (λ y e. e) ∙ ap (λ m. replicate m true) part in
-    let written : put_mid offset k bytes c.copy-from-slice.new.self ≡ take offset bytes ++ (payload ++ drop (offset + n) bytes) =
-    put_mid-paste offset k bytes c.copy-from-slice.new.self payload n c.copy-from-slice.ensures.after same refl ∙ paste_all bytes offset payload n refl in
+    let written : put_mid offset k bytes c.copy_from_slice.new.self ≡ take offset bytes ++ (payload ++ drop (offset + n) bytes) =
+    put_mid-paste offset k bytes c.copy_from_slice.new.self payload n c.copy_from_slice.ensures.after same refl ∙ paste_all bytes offset payload n refl in
     let marked : put_mid offset k held c.fill.new.self ≡ take offset held ++ (replicate n true ++ drop (offset + n) held) =
     put_mid-paste offset k held c.fill.new.self (replicate n true) n flags same (sym (length-replicate n true))
     ∙ paste_all held offset (replicate n true) n (sym (length-replicate n true)) in

@@ -7,8 +7,8 @@ use Rattle.rlc_rx.specs.Flags.{Merged}
 pub loop-i-init : goal.loop-i-init
 loop-i-init c = (merged_none c.args.offset c.args.data.now c.args.bytes.now c.args.held.now, omega arith)
 
-pub overflow-add-new : goal.overflow-add-new
-overflow-add-new c = let few : c.loop-i.new + 1 ≤ length c.args.data.now = omega (arith, c.loop-i.invariant.1, c.loop-i-test.true) in omega arith
+pub overflow_add-new : goal.overflow_add-new
+overflow_add-new c = let few : c.loop-i.new + 1 ≤ length c.args.data.now = omega (arith, c.loop-i.invariant.1, c.loop-i-test.true) in omega arith
 
 pub loop-i-preserved : goal.loop-i-preserved
 loop-i-preserved c =
@@ -16,8 +16,8 @@ loop-i-preserved c =
     let m = c.loop-i.invariant.0 in
     let room : c.args.offset + i < length c.args.bytes.now = omega (arith, c.requires.room, c.loop-i-test.true) in
     elim c.if-not-held-offset.branch [
-      | then-not-held-offset w ↦ simp (w.bytes-is, w.held_is, w.new-is) (merged_new _ _ _ _ _ _ _ _ m room c.requires.sizes w.if-not-held-offset.true, omega (arith, c.loop-i.invariant.1))
-      | else-not-held-offset w ↦ simp (w.bytes-is, w.held_is, w.new-is) (merged_held _ _ _ _ _ _ _ _ m w.if-not-held-offset.false, omega (arith, c.loop-i.invariant.1))
+      | then-not-held-offset w ↦ simp (w.bytes-is, w.held-is, w.new-is) (merged_new _ _ _ _ _ _ _ _ m room c.requires.sizes w.if-not-held-offset.true, omega (arith, c.loop-i.invariant.1))
+      | else-not-held-offset w ↦ simp (w.bytes-is, w.held-is, w.new-is) (merged_held _ _ _ _ _ _ _ _ m w.if-not-held-offset.false, omega (arith, c.loop-i.invariant.1))
     ]
 
 pub returns : goal.returns

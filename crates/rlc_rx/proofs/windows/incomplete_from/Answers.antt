@@ -13,12 +13,12 @@ open_at slots x = not (complete (in_ring (partials slots) x nothing_held))
 pub loop-x-init : goal.loop-x-init
 loop-x-init c = refl
 
-pub returns-then-not-is-complete : goal.returns-then-not-is-complete
-returns-then-not-is-complete c =
+pub returns-then-not-is_complete : goal.returns-then-not-is_complete
+returns-then-not-is_complete c =
     let slots = c.args.slots.now in
     let x = c.loop-x.x in
     let here : open_at slots x ≡ true =
-    ap (λ p. not (complete p)) (ring_read partial_of slots x nothing_held c.index-slots-x.result c.told-slots) ∙ ap not (sym c.is-complete.ensures) ∙ ap not c.if-not-is-complete.true in
+    ap (λ p. not (complete p)) (ring_read partial_of slots x nothing_held c.index-slots-x.result c.told-slots) ∙ ap not (sym c.is_complete.ensures) ∙ ap not c.if-not-is_complete.true in
     sym (c.loop-x.invariant ∙ seek_here (open_at slots) c.args.to x c.loop-x-test.true here)
 
 pub loop-x-preserved : goal.loop-x-preserved
@@ -27,7 +27,7 @@ loop-x-preserved c =
     let x = c.loop-x.x in
     c.loop-x.invariant
     ∙ seek_on (open_at slots) c.args.to x c.loop-x-test.true
-    (ap (λ p. not (complete p)) (ring_read partial_of slots x nothing_held c.index-slots-x.result c.told-slots) ∙ ap not (sym c.is-complete.ensures) ∙ ap not c.if-not-is-complete.false)
+    (ap (λ p. not (complete p)) (ring_read partial_of slots x nothing_held c.index-slots-x.result c.told-slots) ∙ ap not (sym c.is_complete.ensures) ∙ ap not c.if-not-is_complete.false)
 
 pub returns : goal.returns
 returns c =

@@ -22,14 +22,14 @@ loop-x-init c =
       omega arith,
     )
 
-pub loop-x-preserved-then-is-complete : goal.loop-x-preserved-then-is-complete
-loop-x-preserved-then-is-complete c =
+pub loop-x-preserved-then-is_complete : goal.loop-x-preserved-then-is_complete
+loop-x-preserved-then-is_complete c =
     let f = far_of c.args.self.now in
     let x = c.loop-x.x in
     let room = c.loop-x.room in
     let inv = c.loop-x.invariant in
     let more : x < f.rx_highest_status = omega (arith, c.value-x-end.ensures, c.loop-x-test.true) in
-    let done : far.complete (f.sdu x) ≡ true = sym (ap far.complete c.slot-at-slot.ensures) ∙ sym c.is-complete.ensures ∙ c.if-is-complete.true in
+    let done : far.complete (f.sdu x) ≡ true = sym (ap far.complete c.slot_at-slot.ensures) ∙ sym c.is_complete.ensures ∙ c.if-is_complete.true in
     let on = report-complete f f.rx_highest_status x room more done in
     (inv.0 ∙ ap (λ r. r.ack) on, inv.1 ∙ ap (λ r. fill r.entries (draft_of c.loop-x.draft) c.loop-x.buffer) on, inv.2)
 
@@ -40,34 +40,34 @@ returns-then-length-room c =
     let room = c.loop-x.room in
     let inv = c.loop-x.invariant in
     let more : x < f.rx_highest_status = omega (arith, c.value-x-end.ensures, c.loop-x-test.true) in
-    let lacks : far.complete (f.sdu x) ≡ false = sym (ap far.complete c.slot-at-slot.ensures) ∙ sym c.is-complete.ensures ∙ c.if-is-complete.false in
+    let lacks : far.complete (f.sdu x) ≡ false = sym (ap far.complete c.slot_at-slot.ensures) ∙ sym c.is_complete.ensures ∙ c.if-is_complete.false in
     let long : room < far.entries_length (far.sdu_entries x (f.sdu x)) =
-    omega (arith, c.if-length-room.true, c.entries-length-length.ensures x, ap (λ p. far.entries_length (far.sdu_entries x p)) c.slot-at-slot.ensures) in
+    omega (arith, c.if-length-room.true, c.entries_length-length.ensures x, ap (λ p. far.entries_length (far.sdu_entries x p)) c.slot_at-slot.ensures) in
     let at : count_of c.later-count.result ≡ x = omega (arith, c.later-count.ensures, c.value-start.ensures, c.loop-x.auto.x) in
     let stops = report_stops f f.rx_highest_status x room more lacks long in
     (at ∙ sym (inv.0 ∙ ap (λ r. r.ack) stops), inv.1 ∙ ap (λ r. fill r.entries (draft_of c.loop-x.draft) c.loop-x.buffer) stops)
 
-pub returns-in-err-add-entries : goal.returns-in-err-add-entries
-returns-in-err-add-entries c =
+pub returns-in_err-add_entries : goal.returns-in_err-add_entries
+returns-in_err-add_entries c =
     let f = far_of c.args.self.now in
     let x = c.loop-x.x in
     let room = c.loop-x.room in
     let inv = c.loop-x.invariant in
     let d = draft_of c.loop-x.draft in
     let b = c.loop-x.buffer in
-    let d' = draft_of c.add-entries.new.draft in
-    let b' = c.add-entries.new.buffer in
-    let fault = c.in-err-add-entries.field-0.0 in
+    let d' = draft_of c.add_entries.new.draft in
+    let b' = c.add_entries.new.buffer in
+    let fault = c.in_err-add_entries.field-0.0 in
     let own = far.sdu_entries x (f.sdu x) in
     let more : x < f.rx_highest_status = omega (arith, c.value-x-end.ensures, c.loop-x-test.true) in
-    let lacks : far.complete (f.sdu x) ≡ false = sym (ap far.complete c.slot-at-slot.ensures) ∙ sym c.is-complete.ensures ∙ c.if-is-complete.false in
-    let size : c.entries-length-length.result ≡ far.entries_length own = c.entries-length-length.ensures x ∙ ap (λ p. far.entries_length (far.sdu_entries x p)) c.slot-at-slot.ensures in
+    let lacks : far.complete (f.sdu x) ≡ false = sym (ap far.complete c.slot_at-slot.ensures) ∙ sym c.is_complete.ensures ∙ c.if-is_complete.false in
+    let size : c.entries_length-length.result ≡ far.entries_length own = c.entries_length-length.ensures x ∙ ap (λ p. far.entries_length (far.sdu_entries x p)) c.slot_at-slot.ensures in
     let lists = report_lists f f.rx_highest_status x room more lacks (omega (arith, c.if-length-room.false, size)) in
     let at : count_of c.later-count.result ≡ x = omega (arith, c.later-count.ensures, c.value-start.ensures, c.loop-x.auto.x) in
-    let adds = c.in-err-add-entries.ensures ∙ ap (λ y. fill (far.sdu_entries y (partial_of c.slot-at-slot.result.now)) d b) at ∙ ap (λ p. fill (far.sdu_entries x p) d b) c.slot-at-slot.ensures in
+    let adds = c.in_err-add_entries.ensures ∙ ap (λ y. fill (far.sdu_entries y (partial_of c.slot_at-slot.result.now)) d b) at ∙ ap (λ p. fill (far.sdu_entries x p) d b) c.slot_at-slot.ensures in
     let rest = (report-at f f.rx_highest_status (x + 1) (room - far.entries_length own)).entries in
-    let out = err_from_is_err_and c.from-residual.result c.from-residual.ensures.1 in
-    let is : c.from-residual.result ≡ Err fault = out.1 ∙ ap {B = Result (Count Rlc) Fault} Err out.2 in
+    let out = err_from_is_err_and c.from_residual.result c.from_residual.ensures.1 in
+    let is : c.from_residual.result ≡ Err fault = out.1 ∙ ap {B = Result (Count Rlc) Fault} Err out.2 in
     let whole = inv.1 ∙ ap (λ r. fill r.entries d b) lists ∙ fill-behind own rest d d' b b' (Err fault) adds in
     subst (λ r. Listed (report-at f f.rx_highest_status f.rx_next c.args.most) (draft_of c.args.draft.now) c.args.buffer.now r d' b') (sym is) whole
 
@@ -79,17 +79,17 @@ loop-x-preserved c =
     let inv = c.loop-x.invariant in
     let d = draft_of c.loop-x.draft in
     let b = c.loop-x.buffer in
-    let d' = draft_of c.add-entries.new.draft in
-    let b' = c.add-entries.new.buffer in
+    let d' = draft_of c.add_entries.new.draft in
+    let b' = c.add_entries.new.buffer in
     let own = far.sdu_entries x (f.sdu x) in
     let more : x < f.rx_highest_status = omega (arith, c.value-x-end.ensures, c.loop-x-test.true) in
-    let lacks : far.complete (f.sdu x) ≡ false = sym (ap far.complete c.slot-at-slot.ensures) ∙ sym c.is-complete.ensures ∙ c.if-is-complete.false in
-    let size : c.entries-length-length.result ≡ far.entries_length own = c.entries-length-length.ensures x ∙ ap (λ p. far.entries_length (far.sdu_entries x p)) c.slot-at-slot.ensures in
+    let lacks : far.complete (f.sdu x) ≡ false = sym (ap far.complete c.slot_at-slot.ensures) ∙ sym c.is_complete.ensures ∙ c.if-is_complete.false in
+    let size : c.entries_length-length.result ≡ far.entries_length own = c.entries_length-length.ensures x ∙ ap (λ p. far.entries_length (far.sdu_entries x p)) c.slot_at-slot.ensures in
     let lists = report_lists f f.rx_highest_status x room more lacks (omega (arith, c.if-length-room.false, size))
     ∙ ap (λ n. far.behind own (report-at f f.rx_highest_status (x + 1) (room - n))) (sym size) in
     let at : count_of c.later-count.result ≡ x = omega (arith, c.later-count.ensures, c.value-start.ensures, c.loop-x.auto.x) in
-    let adds = c.in-ok-add-entries.ensures ∙ ap (λ y. fill (far.sdu_entries y (partial_of c.slot-at-slot.result.now)) d b) at ∙ ap (λ p. fill (far.sdu_entries x p) d b) c.slot-at-slot.ensures in
-    let rest = (report-at f f.rx_highest_status (x + 1) (room - c.entries-length-length.result)).entries in
+    let adds = c.in_ok-add_entries.ensures ∙ ap (λ y. fill (far.sdu_entries y (partial_of c.slot_at-slot.result.now)) d b) at ∙ ap (λ p. fill (far.sdu_entries x p) d b) c.slot_at-slot.ensures in
+    let rest = (report-at f f.rx_highest_status (x + 1) (room - c.entries_length-length.result)).entries in
     (inv.0 ∙ ap (λ r. r.ack) lists, inv.1 ∙ ap (λ r. fill r.entries d b) lists ∙ fill-behind own rest d d' b b' (Ok tt) adds, omega (arith, inv.2))
 
 pub returns : goal.returns

@@ -14,16 +14,16 @@ pub returns : goal.returns
 returns c =
     let f = far_of c.args.self.now in
     let s = settings_of c.args.self.now.settings in
-    let x = count_of c.rx-count-x.result in
+    let x = count_of c.rx_count-x.result in
     let a = amd_of c.args.header c.args.data.now in
-    let new : far.discards f x a ≡ false = sym c.is-discarded.ensures ∙ c.if-is-discarded.false in
+    let new : far.discards f x a ≡ false = sym c.is_discarded.ensures ∙ c.if-is_discarded.false in
     let fits : (far.clashes (f.sdu x) a || leb packet_limit x) ≡ false =
-    or_from _ _ (sym c.clashes.ensures ∙ c.if-clashes.false) (lt-leb packet_limit x (omega (arith, c.value.ensures, c.if-value-ge-PACKET-LIMIT.false))) in
-    let handed : reception_of c.take.new.self c.hand-up.result ≡ far.reception (far.received a (f.sdu x)) =
-    c.hand-up.ensures ∙ ap far.reception c.take.ensures.held in
-    let both : ◌≡◌ {A = Result far.Reception Fault × far.Far} (Ok (reception_of c.take.new.self c.hand-up.result), far_of c.take.new.self)
+    or_from _ _ (sym c.clashes.ensures ∙ c.if-clashes.false) (lt-leb packet_limit x (omega (arith, c.value.ensures, c.if-value-ge-PACKET_LIMIT.false))) in
+    let handed : reception_of c.take.new.self c.hand_up.result ≡ far.reception (far.received a (f.sdu x)) =
+    c.hand_up.ensures ∙ ap far.reception c.take.ensures.held in
+    let both : ◌≡◌ {A = Result far.Reception Fault × far.Far} (Ok (reception_of c.take.new.self c.hand_up.result), far_of c.take.new.self)
     (Ok (far.reception (far.received a (f.sdu x))), far.taken s x a f) = λ k. (Ok (handed k), c.take.ensures.state k) in
     record {
-      answer = both ∙ ap (outcome f) (sym (receives-takes s x a f new fits)) ∙ ap (λ z. outcome f (far.receives s z a f)) c.rx-count-x.ensures;
+      answer = both ∙ ap (outcome f) (sym (receives-takes s x a f new fits)) ∙ ap (λ z. outcome f (far.receives s z a f)) c.rx_count-x.ensures;
       settings = c.take.ensures.settings;
     }

@@ -16,8 +16,8 @@ returns c =
     let mid = c.absorb.new.self in
     record {
       state =
-          c.await-from.ensures.state ∙ ap (λ t. awaited (settings_of t) (far_of mid).rx_next (far_of mid)) c.absorb.ensures.settings
+          c.await_from.ensures.state ∙ ap (λ t. awaited (settings_of t) (far_of mid).rx_next (far_of mid)) c.absorb.ensures.settings
           ∙ ap (λ h. awaited s h.rx_next h) c.absorb.ensures.state ∙ answering-awaited s g.rx_next f.rx_next g;
-      settings = c.await-from.ensures.settings ∙ c.absorb.ensures.settings;
-      held = ap (λ slots. in_ring (partials slots) (count_of c.args.x) nothing_held) c.await-from.ensures.slots ∙ c.absorb.ensures.held;
+      settings = c.await_from.ensures.settings ∙ c.absorb.ensures.settings;
+      held = ap (λ slots. in_ring (partials slots) (count_of c.args.x) nothing_held) c.await_from.ensures.slots ∙ c.absorb.ensures.held;
     }

@@ -1,4 +1,4 @@
-use Rattle.std.proofs.Common.{◌≡◌, ℕ, ◌+◌, ◌-◌, ◌%◌, ◌<◌, ◌≤◌, length, Ok, Err, Result, sym, ap, ◌∙◌, arith}
+use Rattle.std.proofs.Common.{◌≡◌, ℕ, ◌+◌, ◌%◌, ◌<◌, ◌≤◌, length, Ok, Err, Result, sym, ap, ◌∙◌, arith}
 use Rattle.protocol.specs.Drafts.{Draft, Step, opened, fill, close}
 use Rattle.protocol.specs.Receiving as far
 use Rattle.protocol.specs.declared.faults.Fault.{Fault}
@@ -17,15 +17,15 @@ short e y lo hi = sdus-short (count_of e.counters.rx_next) (count_of e.counters.
 near : (e : FarEnd) → (far_of e).rx_highest_status ≤ (far_of e).rx_next + 16
 near e = omega (arith, e.counters.status_to, e.counters.window)
 
-pub returns-in-err-ack : goal.returns-in-err-ack
-returns-in-err-ack c =
+pub returns-in_err-ack : goal.returns-in_err-ack
+returns-in_err-ack c =
     let e = c.args.self.now in
     let f = far_of e in
     let b = c.args.buffer.now in
     let ok = filled f c.args.size b (short e) e.counters.status_from (near e) c.requires.least c.requires.room in
-    let refused = c.in-err-ack.ensures in
+    let refused = c.in_err-ack.ensures in
     let same = ap (λ d. fill (far.report f c.args.size).entries d b) c.open-draft.ensures in
-    let clash : ◌≡◌ {A = Result (Unit {0}) Fault} (Ok tt) (Err c.in-err-ack.field-0.0) = sym ok ∙ sym (ap (λ s. s.answer) same) ∙ ap (λ s. s.answer) refused in
+    let clash : ◌≡◌ {A = Result (Unit {0}) Fault} (Ok tt) (Err c.in_err-ack.field-0.0) = sym ok ∙ sym (ap (λ s. s.answer) same) ∙ ap (λ s. s.answer) refused in
     absurd (let z : ◌≡◌ {A = ℕ} 0 1 = cc in omega arith)
 
 -- how the draft that was filled is closed
@@ -42,14 +42,14 @@ closing_is e size ack sn b b' start d step least room open_is ack-is sn-is fills
 
 pub returns-in-Ok : goal.returns-in-Ok
 returns-in-Ok c =
-    let listed = c.in-ok-ack.ensures in
-    let w = closing_is c.args.self.now c.args.size (count_of c.in-ok-ack.ack) (sn_of c.sn.result) c.args.buffer.now c.list-missing.new.buffer
-    (draft_of c.open-draft.result) (draft_of c.list-missing.new.draft) _ c.requires.least c.requires.room c.open-draft.ensures listed.0 c.sn.ensures listed.1 c.in-Ok.ensures in
+    let listed = c.in_ok-ack.ensures in
+    let w = closing_is c.args.self.now c.args.size (count_of c.in_ok-ack.ack) (sn_of c.sn.result) c.args.buffer.now c.list_missing.new.buffer
+    (draft_of c.open-draft.result) (draft_of c.list_missing.new.draft) _ c.requires.least c.requires.room c.open-draft.ensures listed.0 c.sn.ensures listed.1 c.in-Ok.ensures in
     record { answer = ap {B = Result ℕ Fault} Ok c.size.ensures ∙ w.0; written = w.1 }
 
 pub returns-in-Err : goal.returns-in-Err
 returns-in-Err c =
-    let listed = c.in-ok-ack.ensures in
-    let w = closing_is c.args.self.now c.args.size (count_of c.in-ok-ack.ack) (sn_of c.sn.result) c.args.buffer.now c.list-missing.new.buffer
-    (draft_of c.open-draft.result) (draft_of c.list-missing.new.draft) _ c.requires.least c.requires.room c.open-draft.ensures listed.0 c.sn.ensures listed.1 c.in-Err.ensures in
+    let listed = c.in_ok-ack.ensures in
+    let w = closing_is c.args.self.now c.args.size (count_of c.in_ok-ack.ack) (sn_of c.sn.result) c.args.buffer.now c.list_missing.new.buffer
+    (draft_of c.open-draft.result) (draft_of c.list_missing.new.draft) _ c.requires.least c.requires.room c.open-draft.ensures listed.0 c.sn.ensures listed.1 c.in-Err.ensures in
     record { answer = w.0; written = w.1 }

@@ -5,18 +5,18 @@ use Rattle.rlc_rx.proofs.slots.Slot.gap_from.Goals as goal
 use Rattle.rlc_rx.specs.Slots.{partial_of}
 use Rattle.protocol.proofs.Seeks.{seek_to}
 
-pub gap-end-requires : goal.gap-end-requires
-gap-end-requires c =
+pub gap_end-requires : goal.gap_end-requires
+gap_end-requires c =
     let p = partial_of c.args.self.now in
     let i = c.args.i in
     let lim = c.limit-limit.result in
-    let a = c.missing-from-start.ensures in
-    let b = c.held-from-stop.ensures in
-    let start : c.missing-from-start.result < lim = c.if-start-limit.true in
+    let a = c.missing_from-start.ensures in
+    let b = c.held_from-stop.ensures in
+    let start : c.missing_from-start.result < lim = c.if-start-limit.true in
     let long = gap_longer p lim i (subst (λ m. m < lim) a start) in
-    let stop : c.held-from-stop.result ≡ far.held_from p (lim - far.missing_from p (lim - i) i) (far.missing_from p (lim - i) i) =
+    let stop : c.held_from-stop.result ≡ far.held_from p (lim - far.missing_from p (lim - i) i) (far.missing_from p (lim - i) i) =
     b ∙ ap (λ m. far.held_from p (lim - m) m) a in
     record {
       some = omega (arith, long, stop);
-      short = omega (arith, b, seek_to (far.holds p) (lim - c.missing-from-start.result) c.missing-from-start.result, start, c.limit-limit.ensures.short);
+      short = omega (arith, b, seek_to (far.holds p) (lim - c.missing_from-start.result) c.missing_from-start.result, start, c.limit-limit.ensures.short);
     }

@@ -6,39 +6,38 @@ use Rattle.rlc_rx.proofs.slots.Slot.receive.Goals as goal
 use Rattle.rlc_rx.specs.Flags.{Merged, NoneFrom, EndsAt, bounds}
 use Rattle.wire.specs.Views.{amd_of}
 
-pub overflow-add-self : goal.overflow-add-self
-overflow-add-self c =
+pub overflow_add-self : goal.overflow_add-self
+overflow_add-self c =
     let s = c.args.self.now in
     let m = c.put.ensures in
     let few : s.count + c.put.result ≤ 502 = omega (arith, s.counted, m.counted, tally-short c.put.new.held, m.sizes.1, s.room.1) in
     omega arith
 
-pub invariant-of-self : goal.invariant-of-self
-invariant-of-self c =
+pub invariant_of-self : goal.invariant_of-self
+invariant_of-self c =
     let s = c.args.self.now in
     let a : Amd = amd_of c.args.header c.args.data.now in
     let m = subst (λ o. Merged o (length a.payload) a.payload s.bytes c.put.new.bytes s.held c.put.new.held c.put.result) c.offset-start.ensures c.put.ensures in
     let top : max s.top (data_end a) ≡ c.max-self.result = sym (c.max-self.ensures ∙ ap (λ o. max s.top (o + length a.payload)) c.offset-start.ensures) in
-    let end : c.end-after-self.result ≡ cond (marks_end a.segment) (Some (data_end a)) s.known_end =
-    c.end-after-self.ensures ∙ ap {B = Option ℕ} (λ o. cond (marks_end a.segment) (Some (o + length a.payload)) s.known_end) c.offset-start.ensures in
+    let end : c.end_after-self.result ≡ cond (marks_end a.segment) (Some (data_end a)) s.known_end =
+    c.end_after-self.ensures ∙ ap {B = Option ℕ} (λ o. cond (marks_end a.segment) (Some (o + length a.payload)) s.known_end) c.offset-start.ensures in
     let beyond = subst (λ t. NoneFrom t c.put.new.held) top (grown_beyond a _ _ _ _ _ s.top s.known_end m s.beyond) in
     let highest = subst (λ t. EndsAt t c.put.new.held) top (grown_highest a _ _ _ _ _ s.top s.known_end m c.requires.some s.highest) in
-    let bounded = bounds-after a s.bytes s.held s.top s.known_end s.short s.beyond s.highest s.bounded c.requires.room c.requires.fits in (
-      (m.sizes.0 ∙ s.room.0, m.sizes.1 ∙ s.room.1),
-      (
-        omega (arith, s.counted, m.counted),
-        (
-          omega (arith, top, s.short, c.requires.room),
-          (beyond, (highest, (ap (λ e. bounds e c.max-self.result) end ∙ ap (bounds (cond (marks_end a.segment) (Some (data_end a)) s.known_end)) (sym top) ∙ bounded, tt))),
-        ),
-      ),
-    )
+    let bounded = bounds-after a s.bytes s.held s.top s.known_end s.short s.beyond s.highest s.bounded c.requires.room c.requires.fits in
+    record {
+      room = (m.sizes.0 ∙ s.room.0, m.sizes.1 ∙ s.room.1);
+      counted = omega (arith, s.counted, m.counted);
+      short = omega (arith, top, s.short, c.requires.room);
+      beyond = beyond;
+      highest = highest;
+      bounded = ap (λ e. bounds e c.max-self.result) end ∙ ap (bounds (cond (marks_end a.segment) (Some (data_end a)) s.known_end)) (sym top) ∙ bounded;
+    }
 
 pub returns : goal.returns
 returns c =
     let s = c.args.self.now in
     let a : Amd = amd_of c.args.header c.args.data.now in
     let m = subst (λ o. Merged o (length a.payload) a.payload s.bytes c.put.new.bytes s.held c.put.new.held c.put.result) c.offset-start.ensures c.put.ensures in
-    let end : c.end-after-self.result ≡ cond (marks_end a.segment) (Some (data_end a)) s.known_end =
-    c.end-after-self.ensures ∙ ap {B = Option ℕ} (λ o. cond (marks_end a.segment) (Some (o + length a.payload)) s.known_end) c.offset-start.ensures in
-    record { sdu = received_is a _ _ _ _ _ s.top s.known_end m c.end-after-self.result end; poll = search rules }
+    let end : c.end_after-self.result ≡ cond (marks_end a.segment) (Some (data_end a)) s.known_end =
+    c.end_after-self.ensures ∙ ap {B = Option ℕ} (λ o. cond (marks_end a.segment) (Some (o + length a.payload)) s.known_end) c.offset-start.ensures in
+    record { sdu = received_is a _ _ _ _ _ s.top s.known_end m c.end_after-self.result end; poll = search rules }
