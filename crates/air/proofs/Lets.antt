@@ -9,7 +9,7 @@ use Rattle.protocol.specs.Airs.{Waiting, Within, kept, struck, max_pdu, max_draw
 use Rattle.protocol.specs.Bytes.{Bytes, put}
 use Rattle.std.proofs.lemmas.Bool.{cond-true, leb-true, and_parts}
 use Rattle.std.specs.Option.{option_map}
-use Rattle.std.specs.List.{remove, AllByRecursion as All, slice_get}
+use Rattle.std.specs.List.{remove, AllByRecursion, slice_get}
 
 -- the k-th ---------------------------------------------------------------------------------------------------------
 
@@ -21,7 +21,7 @@ nth_within [] k x e = absurd (none_some e)
 nth_within (y ∷ xs) zero x e = omega arith
 nth_within (y ∷ xs) (suc k) x e = omega (arith, nth_within xs k x e)
 
-pub all_nth : {X : Type 0} (P : X → Type 0) (xs : List X) (k : ℕ) (x : X) → slice_get xs k ≡ Some x → All P xs → P x
+pub all_nth : {X : Type 0} (P : X → Type 0) (xs : List X) (k : ℕ) (x : X) → slice_get xs k ≡ Some x → AllByRecursion P xs → P x
 all_nth P [] k x e all = absurd (none_some e)
 all_nth P (y ∷ xs) zero x e all = let same : y ≡ x = cc in subst P same all.0
 all_nth P (y ∷ xs) (suc k) x e all = all_nth P xs k x e all.1

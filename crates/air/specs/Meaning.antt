@@ -3,11 +3,11 @@ use Rattle.std.specs.Prelude.{◌≡◌, ℕ, ◌<◌, true, List, length, Optio
 use Rattle.protocol.specs.Airs.{Waiting, carries, age_limit, Takes, laid}
 use Rattle.protocol.specs.Bytes.{Bytes}
 use Rattle.std.specs.Option.{option_map}
-use Rattle.std.specs.List.{AllByRecursion as All}
+use Rattle.std.specs.List.{AllByRecursion}
 
 -- every PDU that waits has a length that an air carries, and an age below the limit
 abbrev pub Sound : List Waiting → Type 0
-Sound waiting = All (λ w. (carries w.pdu ≡ true) × (w.age < age_limit)) waiting
+Sound waiting = AllByRecursion (λ w. (carries w.pdu ≡ true) × (w.age < age_limit)) waiting
 
 -- What a Take may do: it answers the length of what it lets out, if anything, writes that at the buffer's start, and
 -- leaves what may be left.

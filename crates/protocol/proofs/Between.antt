@@ -17,7 +17,7 @@ use Rattle.protocol.specs.Runs.{State, new_state}
 use Rattle.protocol.specs.Sending as near
 use Rattle.protocol.specs.Writing.{pdu_fault}
 use Rattle.std.proofs.lemmas.Bool.{both_ways, cases_lt, ltb-true}
-use Rattle.std.specs.List.{AllByRecursion as All}
+use Rattle.std.specs.List.{AllByRecursion}
 
 -- numbers that are read with a base ------------------------------------------------------------------------------------
 
@@ -68,11 +68,11 @@ pub record LinkSound (acc got : List Bytes) (ran : Bool) (r : State) : Type 0 wh
   -- the far end has seen only what was begun
   pub seen : r.link.far.rx_next_highest ≤ near.top r.link.near
   pub next : r.link.pdcp.pdcp_rx_next ≤ r.link.far.rx_next_highest
-  pub forward : All (Data acc (near.top r.link.near)) r.forward
+  pub forward : AllByRecursion (Data acc (near.top r.link.near)) r.forward
   pub most : ℕ
   pub most_to : most ≤ r.link.far.rx_next_highest
   pub acknowledged_to : (x : ℕ) → (r.link.near.sdu x).acknowledged ≡ true → x < most
-  pub back : All (Told r.link.far most) r.back
+  pub back : AllByRecursion (Told r.link.far most) r.back
 
 pub link-new : LinkSound [] [] false new_state
 link-new =
@@ -129,31 +129,31 @@ module _ {acc got : List Bytes} {ran : Bool} {r : State} (sound : LinkSound acc 
 
 -- after a Put: each is older by one, and the new PDU is there
 module _ (P Q : Waiting → Type 0) (older : (w : Waiting) → suc w.age < 64 → P w → Q (record { pdu = w.pdu; age = suc w.age })) where
-  aged-all : (ws : List Waiting) → All P ws → All Q (aged ws)
+  aged-all : (ws : List Waiting) → AllByRecursion P ws → AllByRecursion Q (aged ws)
   aged-all [] all = tt
   aged-all (w ∷ ws) all = go (ltb (suc w.age) age_limit) refl (aged-all ws all.1)
     where
-      go : (young : Bool) → ltb (suc w.age) age_limit ≡ young → All Q (aged ws)
-          → All Q (cond young (record { pdu = w.pdu; age = suc w.age } ∷ aged ws) (aged ws))
+      go : (young : Bool) → ltb (suc w.age) age_limit ≡ young → AllByRecursion Q (aged ws)
+          → AllByRecursion Q (cond young (record { pdu = w.pdu; age = suc w.age } ∷ aged ws) (aged ws))
       go true e rest = (older w (ltb-true (suc w.age) age_limit e) all.0, rest)
       go false e rest = rest
 
-  all_push : (ws : List Waiting) (w : Waiting) → All Q ws → Q w → All Q (ws ++ w ∷ [])
+  all_push : (ws : List Waiting) (w : Waiting) → AllByRecursion Q ws → Q w → AllByRecursion Q (ws ++ w ∷ [])
   all_push [] w all q = (q, tt)
   all_push (v ∷ ws) w all q = (all.0, all_push ws w all.1 q)
 
-  pub put_all : (pdu : Bytes) (before after : List Waiting) → All P before → Q (record { pdu = pdu; age = 0 }) → Within after (after_put pdu before) → All Q after
+  pub put_all : (pdu : Bytes) (before after : List Waiting) → AllByRecursion P before → Q (record { pdu = pdu; age = 0 }) → Within after (after_put pdu before) → AllByRecursion Q after
   put_all pdu before after all q within = all_within Q within (go (carries pdu))
     where
-      go : (b : Bool) → All Q (cond b (aged before ++ record { pdu = pdu; age = 0 } ∷ []) (aged before))
+      go : (b : Bool) → AllByRecursion Q (cond b (aged before ++ record { pdu = pdu; age = 0 } ∷ []) (aged before))
       go true = all_push (aged before) (record { pdu = pdu; age = 0 }) (aged-all before all) q
       go false = aged-all before all
 
 -- each PDU that waits, seen another way
-pub all_map : {A : Type 0} (P Q : A → Type 0) (xs : List A) → ((x : A) → P x → Q x) → All P xs → All Q xs
+pub all_map : {A : Type 0} (P Q : A → Type 0) (xs : List A) → ((x : A) → P x → Q x) → AllByRecursion P xs → AllByRecursion Q xs
 all_map P Q [] f all = tt
 all_map P Q (x ∷ xs) f all = (f x all.0, all_map P Q xs f all.1)
 
 -- what is let out was among them
-pub all-at : {A : Type 0} (P : A → Type 0) (x : A) (xs : List A) → Within (x ∷ []) xs → All P xs → P x
+pub all-at : {A : Type 0} (P : A → Type 0) (x : A) (xs : List A) → Within (x ∷ []) xs → AllByRecursion P xs → P x
 all-at P x xs within all = (all_within P within all).0

@@ -28,7 +28,7 @@ use Rattle.protocol.specs.declared.faults.End.TheVariants.{Near, Far}
 use Rattle.protocol.specs.declared.faults.Fault.{Fault}
 use Rattle.protocol.specs.declared.faults.Refusal.TheVariants.{EndClash}
 use Rattle.std.proofs.lemmas.Bool.{both_ways, cases_lt, cond-false, ltb-false, le-ltb, ne_eqb, or_from}
-use Rattle.std.specs.List.{AllByRecursion as All}
+use Rattle.std.specs.List.{AllByRecursion}
 
 -- a segment that begins behind byte 0 has an SO that is not 0
 pub segment_readable : (from size sdu_length n : ℕ) → far.offset (near.segment_at from size sdu_length) + n ≤ 502
@@ -245,7 +245,7 @@ module _ (acc got : List Bytes) (ran : Bool) (r : State) (sound : LinkSound acc 
         complete = sound.complete;
         seen = omega (arith, sound.seen, k.same-top);
         next = sound.next;
-        forward = subst (λ top. All (Data acc top) r.forward) (sym k.same-top) sound.forward;
+        forward = subst (λ top. AllByRecursion (Data acc top) r.forward) (sym k.same-top) sound.forward;
         most = sound.most;
         most_to = sound.most_to;
         acknowledged_to = λ x e. sound.acknowledged_to x (sym (k.same-acknowledged x) ∙ e);
@@ -313,7 +313,7 @@ module _ (acc got : List Bytes) (ran : Bool) (r : State) (sound : LinkSound acc 
         complete = sound.complete;
         seen = omega (arith, sound.seen, k.same-top);
         next = sound.next;
-        forward = subst (λ top. All (Data acc top) r.forward) (sym k.same-top) sound.forward;
+        forward = subst (λ top. AllByRecursion (Data acc top) r.forward) (sym k.same-top) sound.forward;
         most = sound.most;
         most_to = sound.most_to;
         acknowledged_to = λ x e. ⊎_elim (sound.acknowledged_to x) (λ new. omega (arith, new.0, t.ack_to)) (k.was_reported x e);

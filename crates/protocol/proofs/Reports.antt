@@ -16,7 +16,7 @@ use Rattle.protocol.proofs.Invariants.{Packets, sdu, PartialSound, FarSound}
 use Rattle.protocol.proofs.Seeks.{seek-from, seek_to, seek_found}
 use Rattle.std.proofs.ByRecursion.{All-append, All-weaker}
 use Rattle.std.proofs.lemmas.Bool.{both_ways, cases_eq, cases_lt, cond-true, cond_both, eq-eqb, le-leb, leb-true, ltb-true, ltb-false, not-true, and_from, or_left, or_right}
-use Rattle.std.specs.List.{AllByRecursion as All}
+use Rattle.std.specs.List.{AllByRecursion}
 
 -- some entry names count y
 abbrev pub Names : ℕ → List Entry → Type 0
@@ -76,29 +76,29 @@ module _ (p : far.Partial) (x : ℕ) (small : far.limit p < 65536) where
           cond_both (eqb stop (far.limit p) && not (is_some p.known_end)) 65535 (stop - 1) (λ z. (z < 65536) × (m ≤ z))
           (λ e. (omega arith, omega (arith, l, small))) (λ e. (omega (arith, inside, small), omega (arith, longer)))
 
-  gaps_right : (fuel i : ℕ) → All (EntryOf x) (far.gaps p x fuel i)
+  gaps_right : (fuel i : ℕ) → AllByRecursion (EntryOf x) (far.gaps p x fuel i)
   gaps_right zero i = tt
   gaps_right (suc fuel) i = go _ refl (gaps_right fuel (far.gap_stop p i))
     where
       go : (b : Bool) → ltb (far.missing_from p (far.limit p - i) i) (far.limit p) ≡ b
-          → All (EntryOf x) (far.gaps p x fuel (far.gap_stop p i))
-          → All (EntryOf x)
+          → AllByRecursion (EntryOf x) (far.gaps p x fuel (far.gap_stop p i))
+          → AllByRecursion (EntryOf x)
           (cond b
           (far.gap_entry x (far.missing_from p (far.limit p - i) i) (far.gap_end p (far.gap_stop p i))
           ∷ cond (eqb (far.gap_stop p i) (far.limit p)) [] (far.gaps p x fuel (far.gap_stop p i)))
           (cond (is_some p.known_end) [] (far.gap_entry x (far.limit p) far.to_the_end ∷ [])))
       go true e rest = (
         gap_right i (ltb-true _ _ e),
-        cond_both (eqb (far.gap_stop p i) (far.limit p)) [] (far.gaps p x fuel (far.gap_stop p i)) (All (EntryOf x)) (λ s. tt) (λ s. rest),
+        cond_both (eqb (far.gap_stop p i) (far.limit p)) [] (far.gaps p x fuel (far.gap_stop p i)) (AllByRecursion (EntryOf x)) (λ s. tt) (λ s. rest),
       )
       go false e rest =
-          cond_both (is_some p.known_end) [] (far.gap_entry x (far.limit p) far.to_the_end ∷ []) (All (EntryOf x)) (λ s. tt)
+          cond_both (is_some p.known_end) [] (far.gap_entry x (far.limit p) far.to_the_end ∷ []) (AllByRecursion (EntryOf x)) (λ s. tt)
           (λ s. (record { number = refl; fits = (small, omega arith); ordered = le-leb _ _ (omega (arith, small)) }, tt))
 
-  sdu_entries_right : All (EntryOf x) (far.sdu_entries x p)
+  sdu_entries_right : AllByRecursion (EntryOf x) (far.sdu_entries x p)
   sdu_entries_right =
       cond_both (eqb (far.held_from p 502 0) 502) (record { nack_sn = x % sn_modulus; missing = every } ∷ []) (far.gaps p x 502 0)
-      (All (EntryOf x)) (λ e. (record { number = refl; fits = tt; ordered = refl }, tt)) (λ e. gaps_right 502 0)
+      (AllByRecursion (EntryOf x)) (λ e. (record { number = refl; fits = tt; ordered = refl }, tt)) (λ e. gaps_right 502 0)
 
 -- an SDU that is not complete has a gap, or an end that is not known
 gaps_name : (p : far.Partial) (x fuel : ℕ) → far.complete p ≡ false → Names x (far.gaps p x (suc fuel) 0)
@@ -145,7 +145,7 @@ pub record Reports (f : far.Far) (low high room : ℕ) (r : far.Report) : Type 0
   pub ack-from : low ≤ r.ack
   pub ack_to : r.ack ≤ high
   pub in_room : far.entries_length r.entries ≤ room
-  pub true_entries : All (EntryBetween low r.ack) r.entries
+  pub true_entries : AllByRecursion (EntryBetween low r.ack) r.entries
   pub named : (y : ℕ) → low ≤ y → y < r.ack → far.complete (f.sdu y) ≡ false → Names y r.entries
 
 entries_length-append : (es fs : List Entry) → far.entries_length (es ++ fs) ≡ far.entries_length es + far.entries_length fs
@@ -153,7 +153,7 @@ entries_length-append [] fs = omega arith
 entries_length-append (e ∷ es) fs = omega (arith, entries_length-append es fs)
 
 -- seen from one count earlier
-lower : (low high : ℕ) (es : List Entry) → All (EntryBetween (suc low) high) es → All (EntryBetween low high) es
+lower : (low high : ℕ) (es : List Entry) → AllByRecursion (EntryBetween (suc low) high) es → AllByRecursion (EntryBetween low high) es
 lower low high =
     All-weaker (EntryBetween (suc low) high) (EntryBetween low high)
     (λ e b. record { count = b.count; from = omega (arith, b.from); to = b.to; entry = b.entry })
@@ -268,7 +268,7 @@ report-length acc f grant packets h g =
 abbrev pub report_pdu : far.Report → Pdu
 report_pdu r = status (r.ack % sn_modulus) r.entries
 
-pub entries_fit : (low high : ℕ) (es : List Entry) → All (EntryBetween low high) es → EntriesFit es
+pub entries_fit : (low high : ℕ) (es : List Entry) → AllByRecursion (EntryBetween low high) es → EntriesFit es
 entries_fit low high [] all = tt
 entries_fit low high (e ∷ es) all =
     (omega (arith, all.0.entry.number, mod-lt all.0.count {m = sn_modulus} (omega arith)), all.0.entry.fits, entries_fit low high es all.1)
@@ -281,7 +281,7 @@ report-fits acc f grant packets h =
 ahead_by : (y ack : ℕ) → y < ack → ack ≤ y + 16 → ahead sn_modulus (y % sn_modulus) (ack % sn_modulus) ≡ ack - y
 ahead_by y ack l h = omega (arith, l, h)
 
-pub entries-valid : (low high place : ℕ) (es : List Entry) → high ≤ low + 16 → All (EntryBetween low high) es
+pub entries-valid : (low high place : ℕ) (es : List Entry) → high ≤ low + 16 → AllByRecursion (EntryBetween low high) es
     → entries_fault (high % sn_modulus) place es ≡ None
 entries-valid low high place [] w all = refl
 entries-valid low high place (e ∷ es) w all =

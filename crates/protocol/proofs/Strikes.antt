@@ -4,7 +4,7 @@ use Rattle.protocol.specs.Airs.{Waiting, Within, done, kept, struck, carries, ag
 use Rattle.protocol.specs.Bytes.{Bytes}
 use Rattle.std.proofs.lemmas.List.{take-append-drop, take-take}
 use Rattle.std.proofs.lemmas.Bool.{ltb-true, cond-true, cond-false}
-use Rattle.std.specs.List.{remove, AllByRecursion as All}
+use Rattle.std.specs.List.{remove, AllByRecursion}
 
 pub within_all : {A : Type 0} (xs : List A) → Within xs xs
 within_all [] = done
@@ -54,18 +54,18 @@ within_longer xs ys m n le w =
     (within_more (drop m (take n ys)) w)
 
 -- what holds of each holds of those left
-pub all_within : {A : Type 0} (P : A → Type 0) {xs ys : List A} → Within xs ys → All P ys → All P xs
+pub all_within : {A : Type 0} (P : A → Type 0) {xs ys : List A} → Within xs ys → AllByRecursion P ys → AllByRecursion P xs
 all_within P done all = tt
 all_within P (kept x p) all = (all.0, all_within P p all.1)
 all_within P (struck y p) all = all_within P p all.1
 
 -- after a Put or Skip everything that waits is older by one, and below the limit
-pub aged_older : (n : ℕ) (ws : List Waiting) → All (λ w. n ≤ w.age) ws → All (λ w. (suc n ≤ w.age) × (w.age < age_limit)) (aged ws)
+pub aged_older : (n : ℕ) (ws : List Waiting) → AllByRecursion (λ w. n ≤ w.age) ws → AllByRecursion (λ w. (suc n ≤ w.age) × (w.age < age_limit)) (aged ws)
 aged_older n [] all = tt
 aged_older n (w ∷ ws) all = go (ltb (suc w.age) age_limit) refl (aged_older n ws all.1)
   where
-    go : (young : Bool) → ltb (suc w.age) age_limit ≡ young → All (λ w. (suc n ≤ w.age) × (w.age < age_limit)) (aged ws)
-        → All (λ w. (suc n ≤ w.age) × (w.age < age_limit)) (cond young (record { pdu = w.pdu; age = suc w.age } ∷ aged ws) (aged ws))
+    go : (young : Bool) → ltb (suc w.age) age_limit ≡ young → AllByRecursion (λ w. (suc n ≤ w.age) × (w.age < age_limit)) (aged ws)
+        → AllByRecursion (λ w. (suc n ≤ w.age) × (w.age < age_limit)) (cond young (record { pdu = w.pdu; age = suc w.age } ∷ aged ws) (aged ws))
     go true young rest = ((omega (arith, all.0), ltb-true _ _ young), rest)
     go false young rest = rest
 

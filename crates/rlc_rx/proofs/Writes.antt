@@ -14,10 +14,10 @@ use Rattle.rlc_rx.specs.Windows.{sdus_in}
 use Rattle.rlc_rx.specs.declared.slots.Slot.{Slot}
 use Rattle.rlc_rx.proofs.Places.{window_seen}
 use Rattle.std.proofs.lemmas.Bool.{cond-true, cond-false, le-ltb}
-use Rattle.std.specs.List.{AllByRecursion as All}
+use Rattle.std.specs.List.{AllByRecursion}
 
 -- entries in order are added while there is room
-fill_fine : (low high : ℕ) (es : List Entry) (d : Draft) (b : Bytes) → All (EntryBetween low high) es → d.size + far.entries_length es ≤ length b
+fill_fine : (low high : ℕ) (es : List Entry) (d : Draft) (b : Bytes) → AllByRecursion (EntryBetween low high) es → d.size + far.entries_length es ≤ length b
     → (fill es d b).answer ≡ Ok tt
 fill_fine low high [] d b all room = refl
 fill_fine low high (e ∷ es) d b all room =
