@@ -37,7 +37,7 @@ returns c =
     let wrote = c.in_ok-length.ensures in
     let rule =
     ap (λ z. spends (set_by n) z (length buffer) (near_of n)) (sym c.size-size.ensures.value)
-    ∙ spends_run (set_by n) (near_of n) size (length buffer) c.if-self.false c.if-buffer-size.false run (plan_run (set_by n) (near_of n) size run _ c.in-Some.ensures) in
+    ∙ spends_run (set_by n) (near_of n) size (length buffer) c.if-self.false (omega arith) run (plan_run (set_by n) (near_of n) size run _ c.in-Some.ensures) in
     record {
       near = (λ i. (wrote.size i, c.note_sent.ensures.near i, wrote.buffer i)) ∙ ap (λ r. spent_by r (near_of n) buffer) (sym rule);
       set = c.note_sent.ensures.set;
