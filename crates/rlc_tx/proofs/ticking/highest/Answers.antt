@@ -1,10 +1,22 @@
 use Rattle.std.proofs.Common.{◌≡◌, ℕ, ◌+◌, ◌-◌, false, Some, sym, ap, ◌∙◌, ⊎_elim, arith}
 use Rattle.protocol.specs.Sending.{Sdu}
 use Rattle.rlc_tx.proofs.Highest.{highest_found, highest_none}
+use Rattle.rlc_tx.proofs.OfEnd.{bare_ordered}
+use Rattle.rlc_tx.proofs.Served.{top_to}
 use Rattle.rlc_tx.proofs.ticking.highest.Goals as goal
 use Rattle.rlc_tx.specs.Windows.{bare}
 use Rattle.std.proofs.lemmas.Bool.{cases_eq}
 use Rattle.wire.specs.Views.{count_of}
+
+pub count-count-requires : goal.count-count-requires
+count-count-requires c =
+    let w = c.args.window in
+    omega (arith, top_to (bare c.args.slots.now w) (bare_ordered c.args.slots.now w))
+
+pub slot_at-requires-clause-to : goal.slot_at-requires-clause-to
+slot_at-requires-clause-to c =
+    let w = c.args.window in
+    omega (arith, top_to (bare c.args.slots.now w) (bare_ordered c.args.slots.now w))
 
 pub returns-then-not-is_acknowledged : goal.returns-then-not-is_acknowledged
 returns-then-not-is_acknowledged c =
