@@ -8,7 +8,7 @@ use Rattle.rlc_tx.proofs.Changes.{after-each}
 use Rattle.rlc_tx.proofs.Marked.{none_counted}
 use Rattle.rlc_tx.proofs.OfSlot.{long, bounded-more}
 use Rattle.rlc_tx.specs.Considered.{counted_once}
-use Rattle.rlc_tx.specs.Marks.{is_sent, same, replaced, mark_of, mark_at, bounded}
+use Rattle.rlc_tx.specs.Marks.{is_sent, replaced, mark_of, mark_at, bounded}
 use Rattle.rlc_tx.specs.Slots.{sdu_of}
 use Rattle.rlc_tx.specs.declared.marks.Mark.{Mark}
 use Rattle.rlc_tx.specs.declared.marks.Mark.TheVariants.{Unsent, Sent, Pending}

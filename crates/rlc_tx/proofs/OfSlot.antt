@@ -29,10 +29,31 @@ few_pending s = omega (arith, s.counted, count_by-le-length is_pending s.marks, 
 
 -- the facts of a slot's type, in their order
 pub facts : {Stored Few : Type 0} {ms : List Mark} {size sent pending low : ℕ} → Stored → Marked ms size sent pending low → Few
-    → Stored × ((length ms ≡ 502) × ((size ≤ 502) × ((sent ≤ size) × (Begun ms sent × (Unbegun ms sent
-    × ((pending ≡ pending_in ms) × ((low ≤ sent) × (NoneBelow ms low × (Few × Unit {0})))))))))
+    → record {
+      stored : Stored;
+      placed : length ms ≡ 502;
+      short : size ≤ 502;
+      within : sent ≤ size;
+      begun : Begun ms sent;
+      unbegun : Unbegun ms sent;
+      counted : pending ≡ pending_in ms;
+      low_begun : low ≤ sent;
+      none_below : NoneBelow ms low;
+      few : Few;
+    }
 facts stored m few =
-    (stored, (m.placed, (m.short, (m.within, (m.begun, (m.unbegun, (m.counted, (m.low_begun, (m.none_below, (few, tt))))))))))
+    record {
+      stored = stored;
+      placed = m.placed;
+      short = m.short;
+      within = m.within;
+      begun = m.begun;
+      unbegun = m.unbegun;
+      counted = m.counted;
+      low_begun = m.low_begun;
+      none_below = m.none_below;
+      few = few;
+    }
 
 -- more may be pending
 pub bounded-more : (acknowledged : Bool) (few many : ℕ) (retx_count : Option ℕ) → few ≤ many → bounded acknowledged few retx_count ≡ true → bounded acknowledged many retx_count ≡ true

@@ -1,4 +1,5 @@
 //! The near end: PDCP numbers packets, and RLC's transmitting side sends them until they are acknowledged.
+#![tactic(auto)]
 
 mod editing;
 mod ends;

@@ -1,14 +1,14 @@
 use Rattle.std.proofs.Common.{◌+◌, cond, ◌++◌, map, get_or, take, drop, set, count_by, sym, ap, ◌∙◌, arith}
 use Rattle.rlc_tx.proofs.Replaced.{replaced-more}
 use Rattle.rlc_tx.proofs.marking.replace.Goals as goal
-use Rattle.rlc_tx.proofs.marking.replace.Goals.{then_is, else_is}
+use Rattle.rlc_tx.proofs.marking.replace.Goals.{then-is, else-is}
 use Rattle.rlc_tx.specs.Marks.{same, replaced}
 use Rattle.rlc_tx.specs.declared.marks.Mark.TheVariants.{Unsent}
 use Rattle.std.proofs.lemmas.List.{take_all, drop_all, append-nil, length-take-le}
 use Rattle.std.proofs.lemmas.List.Sums.{count_by-le-length}
 
-pub overflow-add-changed : goal.overflow-add-changed
-overflow-add-changed c =
+pub overflow_add-changed : goal.overflow_add-changed
+overflow_add-changed c =
     omega (
       arith,
       c.loop-mark.invariant.1,
@@ -24,11 +24,11 @@ loop-mark-preserved c =
     let more = replaced-more c.args.old c.args.new c.args.marks.now ys i c.loop-mark.changed c.is.result c.loop-mark-test.true
     c.loop-mark.auto.marks c.loop-mark.invariant c.is.ensures in
     elim c.if-is.branch [
-      | then_is w ↦ (
+      | then-is w ↦ (
         w.marks-is ∙ ap (λ b. set ys i (cond b c.args.new (get_or ys i Unsent))) (sym w.if-is.true) ∙ more.0,
         w.changed-is ∙ ap (λ b. cond b (c.loop-mark.changed + 1) c.loop-mark.changed) (sym w.if-is.true) ∙ more.1,
       )
-      | else_is w ↦ (
+      | else-is w ↦ (
         w.marks-is ∙ ap (λ b. set ys i (cond b c.args.new (get_or ys i Unsent))) (sym w.if-is.false) ∙ more.0,
         w.changed-is ∙ ap (λ b. cond b (c.loop-mark.changed + 1) c.loop-mark.changed) (sym w.if-is.false) ∙ more.1,
       )

@@ -10,9 +10,9 @@ pub loop-k-preserved : goal.loop-k-preserved
 loop-k-preserved c =
     let w = c.args.window in
     let touches = c.args.touches.now in (
-      c.acknowledge-one.ensures.ring,
+      c.acknowledge_one.ensures.ring,
       λ x.
-          c.acknowledge-one.ensures.sdus x
+          c.acknowledge_one.ensures.sdus x
           ∙ settled-more (count_of w.tx_next_ack) c.loop-k.k (count_of c.args.ack) (count_of c.count-count.result) touches (sdus_in c.args.slots.now w) (sdus_in c.loop-k.slots w)
           (get_or touches c.place.result Unnamed) c.count-count.ensures (ap (λ i. get_or touches i Unnamed) c.place.ensures) c.loop-k.invariant.1 x,
     )

@@ -14,8 +14,8 @@ loop-entry-preserved c =
     let e = entry_of c.in-Some.entry in
     let done = c.loop-entry.invariant.0 in (
       done ++ e ∷ [],
-      stage_more c.args.slots.now c.loop-entry.slots c.consider-entry.new.slots c.args.window done e c.loop-entry.touches c.consider-entry.new.touches c.loop-entry.invariant.1
-          c.consider-entry.ensures.sdus c.consider-entry.ensures.places c.consider-entry.ensures.touches,
+      stage_more c.args.slots.now c.loop-entry.slots c.consider_entry.new.slots c.args.window done e c.loop-entry.touches c.consider_entry.new.touches c.loop-entry.invariant.1
+          c.consider_entry.ensures.sdus c.consider_entry.ensures.places c.consider_entry.ensures.touches,
       append_assoc done (e ∷ []) (entries_of c.next.new.self) ∙ ap (λ xs. done ++ xs) (sym (front-some (entries_of c.loop-entry.entries) (entries_of c.next.new.self) e c.in-Some.ensures)) ∙ c.loop-entry.invariant.2,
     )
 
@@ -23,7 +23,7 @@ pub returns : goal.returns
 returns c =
     let done = c.loop-entry.invariant.0 in
     let all : done ≡ entries_of c.args.entries =
-    sym (append-nil done) ∙ ap (λ xs. done ++ xs) (sym (front_none (entries_of c.loop-entry.entries) (entries_of c.next.new.self) c.in-default.ensures)) ∙ c.loop-entry.invariant.2 in
+    sym (append-nil done) ∙ ap (λ xs. done ++ xs) (sym (front_none (entries_of c.loop-entry.entries) (entries_of c.next.new.self) c.in_default.ensures)) ∙ c.loop-entry.invariant.2 in
     let n = bare c.args.slots.now c.args.window in
     record {
       sdus = λ x. c.loop-entry.invariant.1.sdus x ∙ ap (λ es. considered_in n es x) all;

@@ -21,10 +21,10 @@ returns c =
     let from : count_of w.tx_next_ack ≤ count = omega (arith, is) in
     let at : get_or touches place Unnamed ≡ touch_at touches count = ap (λ i. get_or touches i Unnamed) c.place-place.ensures in
     record {
-      ring = c.consider-named.ensures.ring;
-      places = length-set touches place c.consider-named.result ∙ c.told-touches;
-      sdus = λ x. c.consider-named.ensures.sdus x ∙ entered_as w e touches sdu count is to (get_or touches place Unnamed) at x;
+      ring = c.consider_named.ensures.ring;
+      places = length-set touches place c.consider_named.result ∙ c.told-touches;
+      sdus = λ x. c.consider_named.ensures.sdus x ∙ entered_as w e touches sdu count is to (get_or touches place Unnamed) at x;
       touches =
-          touched_as w e touches sdu count is to place c.consider-named.result c.told-touches c.place-place.ensures from
-          (c.consider-named.ensures.touch ∙ ap (λ t. named_touch (names_byte e.missing) (counted_of t) (sdu count)) at);
+          touched_as w e touches sdu count is to place c.consider_named.result c.told-touches c.place-place.ensures from
+          (c.consider_named.ensures.touch ∙ ap (λ t. named_touch (names_byte e.missing) (counted_of t) (sdu count)) at);
     }

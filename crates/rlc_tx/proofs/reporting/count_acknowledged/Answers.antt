@@ -3,8 +3,8 @@ use Rattle.rlc_tx.proofs.Served.{found_at, ends_at, ends_past}
 use Rattle.rlc_tx.proofs.reporting.count_acknowledged.Goals as goal
 use Rattle.wire.specs.Views.{count_of}
 
-pub overflow-sub-result : goal.overflow-sub-result
-overflow-sub-result c =
+pub overflow_sub-result : goal.overflow_sub-result
+overflow_sub-result c =
     let w = c.args.window in
     let f = found_at _ _ _ w.ordered (count_of c.in-Some.count) (sym c.in-Some.ensures) in
     omega (arith, f.0, c.value.ensures, c.value-in-Some.ensures)

@@ -11,7 +11,7 @@ returns-then-passes c =
     let sdu = sdus_in c.args.slots.now w in
     let at : count_of c.count-count.result ≡ count_of w.tx_next_ack + c.loop-k.k = c.count-count.ensures in
     let passed : passes c.args.sought (count_of c.count-count.result) (sdu (count_of c.count-count.result)) ≡ true =
-    ap (passes c.args.sought (count_of c.count-count.result)) (sym c.slot-at.ensures) ∙ sym c.if-passes.ensures in
+    ap (passes c.args.sought (count_of c.count-count.result)) (sym c.slot_at.ensures) ∙ sym c.if-passes.ensures in
     ap (λ (n : ℕ). Some n) at
     ∙ sym
     (first_is (λ x. passes c.args.sought x (sdu x)) _ _ w.ordered c.loop-k.k (omega (arith, c.loop-k-test.true, c.len-k-end.ensures)) c.loop-k.invariant

@@ -10,5 +10,5 @@ use Rattle.wire.specs.Views.{count_of}
 pub returns : goal.returns
 returns c =
     let n = c.args.self.now in
-    not_not c.is-none.result _ (sym c.is-none.ensures ∙ sym (some_mapped count_of c.first.result))
+    not_not _ _ (cc (some_mapped count_of c.first.result))
     ∙ sym (nothing_after (near_of n) (ordered n) (run_of c.args.run) (option_map count_of c.first.result) (sym c.first.ensures))

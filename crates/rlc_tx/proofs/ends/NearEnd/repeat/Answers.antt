@@ -6,10 +6,15 @@ use Rattle.rlc_tx.specs.Ends.{near_of, set_by}
 use Rattle.rlc_tx.specs.Windows.{bare}
 use Rattle.rlc_tx.specs.declared.ends.NearEnd.{NearEnd}
 
-pub invariant-of-self : goal.invariant-of-self
-invariant-of-self c =
+pub invariant_of-self : goal.invariant_of-self
+invariant_of-self c =
     let n = c.args.self.now in
-    (n.numbers, (n.together, (c.repeat-highest.ensures.ring, (λ alive. still_untired n.failed _ c.repeat-highest.new.slots n.window (sym c.has-failed-self.ensures ∙ alive), tt))))
+    record {
+      numbers = n.numbers;
+      together = n.together;
+      ring = c.repeat_highest.ensures.ring;
+      untired = λ alive. still_untired n.failed _ c.repeat_highest.new.slots n.window (sym c.has_failed-self.ensures ∙ alive);
+    }
 
 -- considering an SDU changes SDUs alone
 considered-sdus : (e : NearEnd) (o : Option ℕ) → considered_all o (near_of e) ≡ with_sdus (near_of e) (considered_all o (near_of e)).sdu
@@ -26,7 +31,7 @@ returns c =
     let o = highest_sent (near_of n) in
     record {
       near =
-          failed_as n c.repeat-highest.new.slots (considered_all o (near_of n)).sdu c.has-failed-self.result (λ x. c.repeat-highest.ensures.sdus x ∙ of_bare n o x) c.has-failed-self.ensures
+          failed_as n c.repeat_highest.new.slots (considered_all o (near_of n)).sdu c.has_failed-self.result (λ x. c.repeat_highest.ensures.sdus x ∙ of_bare n o x) c.has_failed-self.ensures
           ∙ ap (failed_if (set_by n)) (sym (considered-sdus n o));
       set = refl;
     }

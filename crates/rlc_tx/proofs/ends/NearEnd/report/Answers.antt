@@ -8,42 +8,36 @@ use Rattle.rlc_tx.specs.Ends.{near_of}
 use Rattle.timers.specs.Views.{timer_of}
 use Rattle.wire.specs.Views.{count_of, entries_of}
 
-pub invariant-of-self : goal.invariant-of-self
-invariant-of-self c =
+pub invariant_of-self : goal.invariant_of-self
+invariant_of-self c =
     let n = c.args.self.now in
-    let considered = c.consider-entries-touches.new.slots in
-    let settled = c.acknowledge-all.new.slots in (
-      n.numbers,
-      (
-        n.together ∙ sym c.slide-self.ensures.next,
-        (
-          c.acknowledge-all.ensures.ring,
-          (
-            λ alive.
-                untired_after n considered settled c.consider-entries-touches.result (count_of c.args.ack) (entries_of c.args.entries) c.slide-self.result c.count-acknowledged.result
-                c.consider-entries-touches.ensures.sdus c.consider-entries-touches.ensures.named c.acknowledge-all.ensures.sdus c.slide-self.ensures.first c.slide-self.ensures.next _
-                (still_untired n.failed _ considered n.window (sym c.has-failed-self.ensures ∙ alive)),
-            tt,
-          ),
-        ),
-      ),
-    )
+    let considered = c.consider_entries-touches.new.slots in
+    let settled = c.acknowledge_all.new.slots in
+    record {
+      numbers = n.numbers;
+      together = n.together ∙ sym c.slide-self.ensures.next;
+      ring = c.acknowledge_all.ensures.ring;
+      untired = λ alive.
+          untired_after n considered settled c.consider_entries-touches.result (count_of c.args.ack) (entries_of c.args.entries) c.slide-self.result c.count_acknowledged.result
+          c.consider_entries-touches.ensures.sdus c.consider_entries-touches.ensures.named c.acknowledge_all.ensures.sdus c.slide-self.ensures.first c.slide-self.ensures.next _
+          (still_untired n.failed _ considered n.window (sym c.has_failed-self.ensures ∙ alive));
+    }
 
 pub returns : goal.returns
 returns c =
     let n = c.args.self.now in
-    let considered = c.consider-entries-touches.new.slots in
-    let settled = c.acknowledge-all.new.slots in
-    let touches = c.consider-entries-touches.result in
+    let considered = c.consider_entries-touches.new.slots in
+    let settled = c.acknowledge_all.new.slots in
+    let touches = c.consider_entries-touches.result in
     let ack = count_of c.args.ack in
     let es = entries_of c.args.entries in
     let w = c.slide-self.result in
-    let k = c.count-acknowledged.result in
-    let start = start_is n considered settled touches ack es w k c.consider-entries-touches.ensures.sdus c.consider-entries-touches.ensures.named c.acknowledge-all.ensures.sdus c.slide-self.ensures.first c.slide-self.ensures.next c.requires c.count-acknowledged.ensures.value in
+    let k = c.count_acknowledged.result in
+    let start = start_is n considered settled touches ack es w k c.consider_entries-touches.ensures.sdus c.consider_entries-touches.ensures.named c.acknowledge_all.ensures.sdus c.slide-self.ensures.first c.slide-self.ensures.next c.requires c.count_acknowledged.ensures.value in
     let first = c.slide-self.ensures.first ∙ start in
-    let sdu = sdus-new n considered settled touches ack es w k c.consider-entries-touches.ensures.sdus c.consider-entries-touches.ensures.named c.acknowledge-all.ensures.sdus c.slide-self.ensures.first c.slide-self.ensures.next c.requires start in
-    let timer = c.stop-if.ensures ∙ ap (λ b. stopped_if b (timer_of n.polling.t_poll_retransmit)) (ap (λ a. ltb a c.value-2.result) c.value.ensures ∙ ap (ltb (count_of n.polling.poll_sn)) c.value-2.ensures) in
-    let failed = ap (λ (m : Near). m.failed) (failed_as n considered (considered_in (near_of n) es) c.has-failed-self.result c.consider-entries-touches.ensures.sdus c.has-failed-self.ensures) in
+    let sdu = sdus-new n considered settled touches ack es w k c.consider_entries-touches.ensures.sdus c.consider_entries-touches.ensures.named c.acknowledge_all.ensures.sdus c.slide-self.ensures.first c.slide-self.ensures.next c.requires start in
+    let timer = c.stop_if.ensures ∙ ap (λ b. stopped_if b (timer_of n.polling.t_poll_retransmit)) (ap (λ a. ltb a c.value-2.result) c.value.ensures ∙ ap (ltb (count_of n.polling.poll_sn)) c.value-2.ensures) in
+    let failed = ap (λ (m : Near). m.failed) (failed_as n considered (considered_in (near_of n) es) c.has_failed-self.result c.consider_entries-touches.ensures.sdus c.has_failed-self.ensures) in
     record {
       near = λ i.
           record {

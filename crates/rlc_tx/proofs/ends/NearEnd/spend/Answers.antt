@@ -11,19 +11,19 @@ pub write-requires : goal.write-requires
 write-requires c =
     let n = c.args.self.now in
     let run = run_of c.in-Some.plan.run in
-    let size = c.give-back-size.result in
+    let size = c.size-size.result in
     record {
-      run = serves_more (near_of n) size (length c.args.buffer.now) run (omega arith) (serves (near_of n) (ordered n) size c.give-back-size.ensures.least run (plan_run (set_by n) (near_of n) size run _ c.in-Some.ensures));
+      run = serves_more (near_of n) size (length c.args.buffer.now) run (omega arith) (serves (near_of n) (ordered n) size c.size-size.ensures.least run (plan_run (set_by n) (near_of n) size run _ c.in-Some.ensures));
       poll = plan_poll (set_by n) (near_of n) size run c.in-Some.plan.poll c.in-Some.ensures;
     }
 
-pub note-sent-requires : goal.note-sent-requires
-note-sent-requires c =
+pub note_sent-requires : goal.note_sent-requires
+note_sent-requires c =
     let n = c.args.self.now in
     let run = run_of c.in-Some.plan.run in
-    let size = c.give-back-size.result in
+    let size = c.size-size.result in
     record {
-      run = serves_more (near_of n) size 512 run c.give-back-size.ensures.most (serves (near_of n) (ordered n) size c.give-back-size.ensures.least run (plan_run (set_by n) (near_of n) size run _ c.in-Some.ensures));
+      run = serves_more (near_of n) size 512 run c.size-size.ensures.most (serves (near_of n) (ordered n) size c.size-size.ensures.least run (plan_run (set_by n) (near_of n) size run _ c.in-Some.ensures));
       poll = plan_poll (set_by n) (near_of n) size run c.in-Some.plan.poll c.in-Some.ensures;
       alive = c.if-self.false;
     }
@@ -32,13 +32,13 @@ pub returns : goal.returns
 returns c =
     let n = c.args.self.now in
     let run = run_of c.in-Some.plan.run in
-    let size = c.give-back-size.result in
+    let size = c.size-size.result in
     let buffer = c.args.buffer.now in
-    let wrote = c.in-ok-length.ensures in
+    let wrote = c.in_ok-length.ensures in
     let rule =
-    ap (λ z. spends (set_by n) z (length buffer) (near_of n)) (sym c.give-back-size.ensures.value)
-    ∙ spends_run (set_by n) (near_of n) size (length buffer) c.if-self.false c.if-buffer-size.false run (plan_run (set_by n) (near_of n) size run _ c.in-Some.ensures) in
+    ap (λ z. spends (set_by n) z (length buffer) (near_of n)) (sym c.size-size.ensures.value)
+    ∙ spends_run (set_by n) (near_of n) size (length buffer) c.if-self.false (omega arith) run (plan_run (set_by n) (near_of n) size run _ c.in-Some.ensures) in
     record {
-      near = (λ i. (wrote.size i, c.note-sent.ensures.near i, wrote.buffer i)) ∙ ap (λ r. spent_by r (near_of n) buffer) (sym rule);
-      set = c.note-sent.ensures.set;
+      near = (λ i. (wrote.size i, c.note_sent.ensures.near i, wrote.buffer i)) ∙ ap (λ r. spent_by r (near_of n) buffer) (sym rule);
+      set = c.note_sent.ensures.set;
     }

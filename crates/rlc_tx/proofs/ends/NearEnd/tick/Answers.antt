@@ -9,11 +9,11 @@ use Rattle.std.specs.Option.{option_map}
 use Rattle.timers.specs.Views.{timer_of}
 use Rattle.wire.specs.Views.{count_of}
 
-pub returns-then-is-none : goal.returns-then-is-none
-returns-then-is-none c =
+pub returns-then-is_none : goal.returns-then-is_none
+returns-then-is_none c =
     let n = c.args.self.now in
     let out = sym c.tick.ensures.1 ∙ c.if-tick.true in
-    let nothing = nothing_left (near_of n) (ordered n) (option_map count_of c.first.result) (sym c.first.ensures) ∙ ap not (some_mapped count_of c.first.result ∙ c.if-is-none.ensures) in
+    let nothing = nothing_left (near_of n) (ordered n) (option_map count_of c.first.result) (sym c.first.ensures) ∙ ap not (some_mapped count_of c.first.result ∙ c.if-is_none.ensures) in
     record {
       near =
           c.repeat.ensures.near
@@ -22,11 +22,11 @@ returns-then-is-none c =
       set = c.repeat.ensures.set;
     }
 
-pub returns-else-is-none : goal.returns-else-is-none
-returns-else-is-none c =
+pub returns-else-is_none : goal.returns-else-is_none
+returns-else-is_none c =
     let n = c.args.self.now in
     let out = sym c.tick.ensures.1 ∙ c.if-tick.true in
-    let something = nothing_left (near_of n) (ordered n) (option_map count_of c.first.result) (sym c.first.ensures) ∙ ap not (some_mapped count_of c.first.result ∙ c.if-is-none.ensures) in
+    let something = nothing_left (near_of n) (ordered n) (option_map count_of c.first.result) (sym c.first.ensures) ∙ ap not (some_mapped count_of c.first.result ∙ c.if-is_none.ensures) in
     record {
       near = owing_is (set_by n) (near_of n) out (timer_of c.tick.new.self) c.tick.ensures.0 ∙ sym (tick_owes (set_by n) (near_of n) out something);
       set = refl;

@@ -9,13 +9,13 @@ use Rattle.rlc_tx.proofs.slots.Slot.acknowledge.Goals as goal
 use Rattle.rlc_tx.specs.Marks.{is_pending, mark_at}
 use Rattle.std.proofs.lemmas.Bool.{cond-false}
 
-pub overflow-sub-self : goal.overflow-sub-self
-overflow-sub-self c =
+pub overflow_sub-self : goal.overflow_sub-self
+overflow_sub-self c =
     let s = c.args.self.now in
     omega (arith, c.replace.ensures.changed, count_within is_pending s.marks s.low (s.sent - s.low), s.counted)
 
-pub invariant-of-self : goal.invariant-of-self
-invariant-of-self c =
+pub invariant_of-self : goal.invariant_of-self
+invariant_of-self c =
     let s = c.args.self.now in
     facts s.stored
     (sent-again s.marks c.replace.new.marks s.size s.sent s.pending s.low s.low s.sent (marked s) s.low_begun (omega arith) s.none_below c.replace.ensures.after

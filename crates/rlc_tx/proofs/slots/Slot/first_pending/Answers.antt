@@ -5,16 +5,16 @@ use Rattle.rlc_tx.proofs.slots.Slot.first_pending.Goals as goal
 use Rattle.rlc_tx.specs.Slots.{sdu_of}
 use Rattle.std.proofs.lemmas.Bool.{ltb-true}
 
-pub overflow-add-result : goal.overflow-add-result
-overflow-add-result c =
+pub overflow_add-result : goal.overflow_add-result
+overflow_add-result c =
     let s = c.args.self.now in
-    omega (arith, c.count-front.ensures, first_begun _ _ _ _ _ (marked s), s.within, s.short)
+    omega (arith, c.count_front.ensures, first_begun _ _ _ _ _ (marked s), s.within, s.short)
 
 pub returns : goal.returns
 returns c =
     let s = c.args.self.now in
     let some : 0 < s.pending = ltb-true 0 s.pending (sym (has-pending _ _ _ _ _ (marked s) (sdu_of s) (long s) (λ i. refl)) ∙ c.requires) in
-    let first : s.low + c.count-front.result ≡ first_pending _ _ _ _ _ (marked s) = ap (λ n. s.low + n) c.count-front.ensures in
+    let first : s.low + c.count_front.result ≡ first_pending _ _ _ _ _ (marked s) = ap (λ n. s.low + n) c.count_front.ensures in
     record {
       value = first ∙ sym (byte-pending _ _ _ _ _ (marked s) (sdu_of s) (long s) (λ i. refl) some);
       within = omega (arith, first, (first_is _ _ _ _ _ (marked s) some).0, s.within);

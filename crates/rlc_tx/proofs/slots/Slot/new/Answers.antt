@@ -15,4 +15,4 @@ sdu_bytes sn number packet copied rest is same =
 pub returns : goal.returns
 returns c =
     c.unsent.ensures
-    ∙ ap unsent_sdu (sdu_bytes (sn_of c.args.sn) c.value-number.result c.args.packet.now c.copy-from-slice.new.self _ c.value-number.ensures c.copy-from-slice.ensures.after)
+    ∙ ap unsent_sdu (sdu_bytes (sn_of c.args.sn) c.value-number.result c.args.packet.now c.copy_from_slice.new.self _ c.value-number.ensures c.copy_from_slice.ensures.after)

@@ -8,18 +8,18 @@ use Rattle.rlc_tx.specs.Slots.{sdu_of}
 pub returns : goal.returns
 returns c =
     let s = c.args.self.now in
-    let from = c.first-pending-from.result in
+    let from = c.first_pending-from.result in
     let most = c.min-most.result in
     record {
-      first = c.first-pending-from.ensures.value;
+      first = c.first_pending-from.ensures.value;
       size =
           omega (
             arith,
-            c.count-front.ensures,
+            c.count_front.ensures,
             leading_take is_pending (from + most - from) (drop from s.marks),
             c.min-most.ensures,
             c.room.ensures,
-            c.first-pending-from.ensures.within,
-            pending_to _ _ _ _ _ (marked s) (sdu_of s) (long s) (λ i. refl) from (omega (arith, c.first-pending-from.ensures.within)),
+            c.first_pending-from.ensures.within,
+            pending_to _ _ _ _ _ (marked s) (sdu_of s) (long s) (λ i. refl) from (omega (arith, c.first_pending-from.ensures.within)),
           );
     }

@@ -7,21 +7,21 @@ use Rattle.rlc_tx.specs.Marks.{is_pending}
 use Rattle.rlc_tx.specs.Plans.{Front, served_as}
 use Rattle.rlc_tx.specs.Slots.{sdu_of}
 
-pub invariant-of-self : goal.invariant-of-self
-invariant-of-self c =
+pub invariant_of-self : goal.invariant_of-self
+invariant_of-self c =
     let s = c.args.self.now in
     let run = c.args.run in
     let front = subst (λ new. Front (served_as new) (sdu_of s) run.from run.size) c.if-new.true c.requires.front in
     facts s.stored (marked-new s run.from run.size front c.replace.new.marks c.replace.ensures.after) s.few
 
-pub overflow-sub-self : goal.overflow-sub-self
-overflow-sub-self c =
+pub overflow_sub-self : goal.overflow_sub-self
+overflow_sub-self c =
     let s = c.args.self.now in
     let from = c.args.run.from in
     omega (arith, c.replace-else-new.ensures.changed, count_within is_pending s.marks from (from + c.args.run.size - from), s.counted)
 
-pub invariant-of-self-else-new : goal.invariant-of-self-else-new
-invariant-of-self-else-new c =
+pub invariant_of-self-else-new : goal.invariant_of-self-else-new
+invariant_of-self-else-new c =
     let s = c.args.self.now in
     let run = c.args.run in
     let front = subst (λ new. Front (served_as new) (sdu_of s) run.from run.size) c.if-new.false c.requires.front in

@@ -3,9 +3,20 @@ use Rattle.protocol.specs.Sending as protocol
 use Rattle.rlc_tx.proofs.Fresh.{fresh}
 use Rattle.rlc_tx.proofs.slots.Slot.unsent.Goals as goal
 
-pub invariant-of-result : goal.invariant-of-result
-invariant-of-result c =
-    (search rules, (refl, (c.requires, (omega arith, (λ i l. absurd (omega (arith, l)), (λ i l. ap protocol.is_unsent (fresh 502 i), (refl, (omega arith, (λ i l. absurd (omega (arith, l)), (refl, tt))))))))))
+pub invariant_of-result : goal.invariant_of-result
+invariant_of-result c =
+    record {
+      stored = search rules;
+      placed = refl;
+      short = c.requires;
+      within = omega arith;
+      begun = λ i l. absurd (omega (arith, l));
+      unbegun = λ i l. ap protocol.is_unsent (fresh 502 i);
+      counted = refl;
+      low_begun = omega arith;
+      none_below = λ i l. absurd (omega (arith, l));
+      few = refl;
+    }
 
 pub returns : goal.returns
 returns c =
