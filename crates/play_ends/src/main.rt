@@ -8,6 +8,8 @@
 //!
 //! Each line prints its answer, and what is sent or collected. Nothing is carried from one end to the other.
 
+#![tactic(auto)]
+
 mod far;
 mod near;
 mod scripts;
