@@ -1,6 +1,6 @@
 #!/usr/bin/env python3
 """Turns this repository's own names to Rattle's spelling: types and facts in upper camel case, everything else in
-snake case; a dash joins two names of functions in a lemma's name. Run once at the top, after port.py.
+snake case; in a lemma's name a dash joins two functions. Run once at the top, after port.py.
 
 usage: tools/respell.py KIT    (the folder of the toolchain, whose names are left alone)
 """
@@ -20,7 +20,8 @@ VARIABLES = {"TX-NEXT": "pdcp_tx_next", "RX-NEXT": "pdcp_rx_next", "pollPDU": "p
 for name in "TX-Next TX-Next-Ack RX-Next RX-Next-Highest RX-Highest-Status RX-Next-Status-Trigger RX-DELIV RX-REORD POLL-SN PDU-WITHOUT-POLL RETX-COUNT t-Reassembly t-Reordering".split():
     VARIABLES[name] = name.lower().replace("-", "_")
 SPOKEN = {name: name.replace("-", "_") for name in VARIABLES if name[0] in "TRP"}
-LISTS = {"length", "take", "drop", "map", "append", "cond", "min", "max", "set", "get", "mod", "div"}
+OUTER = {"length", "take", "drop", "map"}
+INNER = {"append", "set", "set-all"}
 
 
 def files(*kinds):
@@ -64,7 +65,7 @@ def camel(name):
 
 
 def lemma(name, functions):
-    """A dash between two functions stays, any other becomes '_'."""
+    """A dash joins two functions where one of them is of lists, as in length-put_at and fill-append, or both are one."""
     parts = name.split("-")
     pieces, at = [], 0
     while at < len(parts):
@@ -75,14 +76,15 @@ def lemma(name, functions):
                 at = to
                 break
     said = snake(pieces[0])
-    for before, piece in zip(pieces, pieces[1:]):
-        said += ("-" if before in functions and piece in functions else "_") + snake(piece)
+    for k, (before, piece) in enumerate(zip(pieces, pieces[1:])):
+        joins = {before, piece} <= functions and (k == 0 and before in OUTER or piece in INNER or before == piece)
+        said += ("-" if joins else "_") + snake(piece)
     return said
 
 
 def names():
     kit = of_the_kit()
-    declared, functions = {}, set(LISTS)
+    declared, functions = {}, OUTER | INNER
     local = set()
     for path in files(".antt"):
         inside = of_a_function(path)
@@ -96,14 +98,14 @@ def names():
                 if inside and (GENERATED.search(name) or re.match(r"(goal|Goals|goals|Given)\.|the-", m.group(2))):
                     continue
                 declared.setdefault(name, set()).add("/specs/" in path)
-                if "/specs/" in path and not name[0].isupper():
+                # (fields, constructors and local names stand further right)
+                if "/specs/" in path and not name[0].isupper() and re.match(r"\S", line) and "→" in m.group(2):
                     functions.add(name)
             if not inside:
                 local.update(t for t in TOKEN.findall(re.sub(r"(^|\s)--\s.*", "", line)) if re.search(r"[A-Za-z0-9_']-[A-Za-z0-9]", t))
     for path in files(".rt"):
         for line in text(path).split("\n"):
             local.update(re.findall(r"\bas ([a-z][\w']*(?:-[\w']+)+)", line))
-    functions -= {"is", "keeps", "end", "on", "to", "none", "far", "near", "whole", "first", "middle", "last"}
     turned = dict(VARIABLES)
     for name in sorted(set(declared) | local):
         if name in turned or "-" not in name or (name in kit and name not in declared) or (GENERATED.search(name) and name not in declared):

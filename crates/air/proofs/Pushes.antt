@@ -81,11 +81,11 @@ module _ (q : Queue) (pdu : Bytes) (room : q.held < capacity) (carried : (1 ≤ 
 
 -- the newest 8 -----------------------------------------------------------------------------------------------------
 
-pub newest-short : (ws : List Waiting) → length ws ≤ capacity → newest ws ≡ ws
-newest-short ws le = let none : length ws - capacity ≡ 0 = omega arith in ap (λ n. drop n ws) none
+pub newest_short : (ws : List Waiting) → length ws ≤ capacity → newest ws ≡ ws
+newest_short ws le = let none : length ws - capacity ≡ 0 = omega arith in ap (λ n. drop n ws) none
 
-pub newest-room : (ws : List Waiting) (w : Waiting) → length ws < capacity → ws ++ w ∷ [] ≡ newest (ws ++ w ∷ [])
-newest-room ws w lt = sym (newest-short (ws ++ w ∷ []) (omega (arith, length_push ws w)))
+pub newest_room : (ws : List Waiting) (w : Waiting) → length ws < capacity → ws ++ w ∷ [] ≡ newest (ws ++ w ∷ [])
+newest_room ws w lt = sym (newest_short (ws ++ w ∷ []) (omega (arith, length_push ws w)))
 
 pub newest_full : (ws : List Waiting) (w : Waiting) → length ws ≡ capacity → remove ws 0 ++ w ∷ [] ≡ newest (ws ++ w ∷ [])
 newest_full ws w full =

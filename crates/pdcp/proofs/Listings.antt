@@ -10,17 +10,17 @@ use Rattle.std.proofs.lemmas.Bool.{cases_eq, cond-true, cond-false, eq-eqb, ne_e
 
 -- one COUNT and the higher ones -------------------------------------------------------------------------------------
 
-found-other : (o : Option Bytes) (from c : ℕ) (rest : List Stored) → (from ≡ c → ⊥) → found (noted o from rest) c ≡ found rest c
-found-other None from c rest apart = refl
-found-other (Some packet) from c rest apart = cond-false _ _ _ (ne_eqb from c apart)
+found_other : (o : Option Bytes) (from c : ℕ) (rest : List Stored) → (from ≡ c → ⊥) → found (noted o from rest) c ≡ found rest c
+found_other None from c rest apart = refl
+found_other (Some packet) from c rest apart = cond-false _ _ _ (ne_eqb from c apart)
 
-found-same : (o : Option Bytes) (c : ℕ) (rest : List Stored) → found rest c ≡ None → found (noted o c rest) c ≡ o
-found-same None c rest none = none
-found-same (Some packet) c rest none = cond-true _ _ _ (eq-eqb c c refl)
+found_same : (o : Option Bytes) (c : ℕ) (rest : List Stored) → found rest c ≡ None → found (noted o c rest) c ≡ o
+found_same None c rest none = none
+found_same (Some packet) c rest none = cond-true _ _ _ (eq-eqb c c refl)
 
-noted-before : (o : Option Bytes) (from : ℕ) (front rest : List Stored) → noted o from (front ++ rest) ≡ noted o from front ++ rest
-noted-before None from front rest = refl
-noted-before (Some packet) from front rest = refl
+noted_before : (o : Option Bytes) (from : ℕ) (front rest : List Stored) → noted o from (front ++ rest) ≡ noted o from front ++ rest
+noted_before None from front rest = refl
+noted_before (Some packet) from front rest = refl
 
 insert_later : (o : Option Bytes) (from : ℕ) (s : Stored) (rest : List Stored) → from < s.count → insert s (noted o from rest) ≡ noted o from (insert s rest)
 insert_later None from s rest later = refl
@@ -35,9 +35,9 @@ stored_or true packet ss c e = refl
 stored_or false packet ss c e = e
 
 -- a COUNT is stored if its packet is found
-pub stored-found : (ss : List Stored) (c : ℕ) → is_stored ss c ≡ is_some (found ss c)
-stored-found [] c = refl
-stored-found (s ∷ ss) c = stored_or (eqb s.count c) s.packet ss c (stored-found ss c)
+pub stored_found : (ss : List Stored) (c : ℕ) → is_stored ss c ≡ is_some (found ss c)
+stored_found [] c = refl
+stored_found (s ∷ ss) c = stored_or (eqb s.count c) s.packet ss c (stored_found ss c)
 
 -- a range of COUNTs ------------------------------------------------------------------------------------------------
 
@@ -65,27 +65,27 @@ listed_split f (suc m) n from =
     let size : suc m + n ≡ suc (m + n) = omega arith in
     let start : suc from + m ≡ from + suc m = omega arith in
     ap (λ k. listed f k from) size ∙ ap (noted (f from) from) (listed_split f m n (suc from))
-    ∙ noted-before (f from) from (listed f m (suc from)) (listed f n (suc from + m)) ∙ ap (λ k. listed f (suc m) from ++ listed f n k) start
+    ∙ noted_before (f from) from (listed f m (suc from)) (listed f n (suc from + m)) ∙ ap (λ k. listed f (suc m) from ++ listed f n k) start
 
 -- what is found in a list is what stands there
 pub found_outside : (f : ℕ → Option Bytes) (n from c : ℕ) → (from ≤ c → c < from + n → ⊥) → found (listed f n from) c ≡ None
 found_outside f zero from c out = refl
 found_outside f (suc n) from c out =
-    found-other (f from) from c (listed f n (suc from)) (λ e. out (omega (arith, e)) (omega (arith, e)))
+    found_other (f from) from c (listed f n (suc from)) (λ e. out (omega (arith, e)) (omega (arith, e)))
     ∙ found_outside f n (suc from) c (λ lo hi. out (omega (arith, lo)) (omega (arith, hi)))
 
 pub found_at : (f : ℕ → Option Bytes) (n from c : ℕ) → from ≤ c → c < from + n → found (listed f n from) c ≡ f c
 found_at f zero from c lo hi = absurd (omega (arith, lo, hi))
 found_at f (suc n) from c lo hi =
     ⊎_elim
-    (λ e. subst (λ k. found (listed f (suc n) k) c ≡ f c) (sym e) (found-same (f c) c (listed f n (suc c)) (found_outside f n (suc c) c (λ l h. omega (arith, l)))))
-    (λ d. found-other (f from) from c (listed f n (suc from)) d ∙ found_at f n (suc from) c (omega (arith, lo, d)) (omega (arith, hi)))
+    (λ e. subst (λ k. found (listed f (suc n) k) c ≡ f c) (sym e) (found_same (f c) c (listed f n (suc c)) (found_outside f n (suc c) c (λ l h. omega (arith, l)))))
+    (λ d. found_other (f from) from c (listed f n (suc from)) d ∙ found_at f n (suc from) c (omega (arith, lo, d)) (omega (arith, hi)))
     (cases_eq from c)
 
 -- f changed at one COUNT -------------------------------------------------------------------------------------------
 
-listed-past : (f : ℕ → Option Bytes) (c : ℕ) (o : Option Bytes) (n from : ℕ) → c < from → listed (update f c o) n from ≡ listed f n from
-listed-past f c o n from h = listed_same (update f c o) f n from (λ k lo hi. update_other f c o k (λ e. omega (arith, h, lo, e)))
+listed_past : (f : ℕ → Option Bytes) (c : ℕ) (o : Option Bytes) (n from : ℕ) → c < from → listed (update f c o) n from ≡ listed f n from
+listed_past f c o n from h = listed_same (update f c o) f n from (λ k lo hi. update_other f c o k (λ e. omega (arith, h, lo, e)))
 
 -- a packet stored behind the higher ones stands before them
 insert_first : (f : ℕ → Option Bytes) (s : Stored) (n from : ℕ) → s.count < from → insert s (listed f n from) ≡ s ∷ listed f n from
@@ -97,41 +97,41 @@ insert_first f s (suc n) from h = go (f from) (insert_first f s n (suc from) (om
     go None e = e
     go (Some packet) e = cond-true _ _ _ (lt-ltb s.count from h)
 
-pub listed-insert : (f : ℕ → Option Bytes) (c : ℕ) (packet : Bytes) (n from : ℕ) → f c ≡ None → from ≤ c → c < from + n
+pub listed_insert : (f : ℕ → Option Bytes) (c : ℕ) (packet : Bytes) (n from : ℕ) → f c ≡ None → from ≤ c → c < from + n
     → listed (update f c (Some packet)) n from ≡ insert (record { count = c; packet = packet }) (listed f n from)
-listed-insert f c packet zero from none lo hi = absurd (omega (arith, lo, hi))
-listed-insert f c packet (suc n) from none lo hi =
+listed_insert f c packet zero from none lo hi = absurd (omega (arith, lo, hi))
+listed_insert f c packet (suc n) from none lo hi =
     ⊎_elim
     (λ e. subst (λ k. listed (update f c (Some packet)) (suc n) k ≡ insert (record { count = c; packet = packet }) (listed f (suc n) k)) (sym e) here)
     (λ d.
     ap (λ o. noted o from (listed (update f c (Some packet)) n (suc from))) (update_other f c (Some packet) from d)
-    ∙ ap (noted (f from) from) (listed-insert f c packet n (suc from) none (omega (arith, lo, d)) (omega (arith, hi)))
+    ∙ ap (noted (f from) from) (listed_insert f c packet n (suc from) none (omega (arith, lo, d)) (omega (arith, hi)))
     ∙ sym (insert_later (f from) from (record { count = c; packet = packet }) (listed f n (suc from)) (omega (arith, lo, d))))
     (cases_eq from c)
   where
     here : listed (update f c (Some packet)) (suc n) c ≡ insert (record { count = c; packet = packet }) (listed f (suc n) c)
     here =
         ap (λ o. noted o c (listed (update f c (Some packet)) n (suc c))) (update_same f c (Some packet))
-        ∙ ap (λ ss. record { count = c; packet = packet } ∷ ss) (listed-past f c (Some packet) n (suc c) (omega arith))
+        ∙ ap (λ ss. record { count = c; packet = packet } ∷ ss) (listed_past f c (Some packet) n (suc c) (omega arith))
         ∙ sym (insert_first f (record { count = c; packet = packet }) n (suc c) (omega arith))
         ∙ ap (λ o. insert (record { count = c; packet = packet }) (noted o c (listed f n (suc c)))) (sym none)
 
-pub listed-without : (f : ℕ → Option Bytes) (c : ℕ) (packet : Bytes) (n from : ℕ) → f c ≡ Some packet → from ≤ c → c < from + n
+pub listed_without : (f : ℕ → Option Bytes) (c : ℕ) (packet : Bytes) (n from : ℕ) → f c ≡ Some packet → from ≤ c → c < from + n
     → listed (update f c None) n from ≡ without c (listed f n from)
-listed-without f c packet zero from some lo hi = absurd (omega (arith, lo, hi))
-listed-without f c packet (suc n) from some lo hi =
+listed_without f c packet zero from some lo hi = absurd (omega (arith, lo, hi))
+listed_without f c packet (suc n) from some lo hi =
     ⊎_elim
     (λ e. subst (λ k. listed (update f c None) (suc n) k ≡ without c (listed f (suc n) k)) (sym e) here)
     (λ d.
     ap (λ o. noted o from (listed (update f c None) n (suc from))) (update_other f c None from d)
-    ∙ ap (noted (f from) from) (listed-without f c packet n (suc from) some (omega (arith, lo, d)) (omega (arith, hi)))
+    ∙ ap (noted (f from) from) (listed_without f c packet n (suc from) some (omega (arith, lo, d)) (omega (arith, hi)))
     ∙ sym (without_later (f from) from c (listed f n (suc from)) (omega (arith, lo, d))))
     (cases_eq from c)
   where
     here : listed (update f c None) (suc n) c ≡ without c (listed f (suc n) c)
     here =
         ap (λ o. noted o c (listed (update f c None) n (suc c))) (update_same f c None)
-        ∙ listed-past f c None n (suc c) (omega arith)
+        ∙ listed_past f c None n (suc c) (omega arith)
         ∙ sym (cond-true _ _ _ (eq-eqb c c refl))
         ∙ ap (λ o. without c (noted o c (listed f n (suc c)))) (sym some)
 

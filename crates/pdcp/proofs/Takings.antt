@@ -14,9 +14,9 @@ use Rattle.wire.specs.Views.{held_if}
 -- taking in --------------------------------------------------------------------------------------------------------
 
 -- a COUNT past 32 bits is out of range anyway
-pub counted-held : (s : Settings) (o : Option ℕ) (packet : Bytes) (p : Pdcp) → counted s (held_if o) packet p ≡ counted s o packet p
-counted-held s None packet p = refl
-counted-held s (Some n) packet p = go (ltb n (2 ^ 32)) refl
+pub counted_held : (s : Settings) (o : Option ℕ) (packet : Bytes) (p : Pdcp) → counted s (held_if o) packet p ≡ counted s o packet p
+counted_held s None packet p = refl
+counted_held s (Some n) packet p = go (ltb n (2 ^ 32)) refl
   where
     go : (b : Bool) → ltb n (2 ^ 32) ≡ b → counted s (cond b (Some n) None) packet p ≡ counted s (Some n) packet p
     go true e = refl
@@ -43,15 +43,15 @@ received bytes state sn packet none short is =
     let s = state.0 in
     let p = state.1 in
     let first : counted s (held_if (pdcp_count 4096 2048 p.rx_deliv sn)) packet p ≡ numbered s (Ok (sn, packet)) p =
-    counted-held s (pdcp_count 4096 2048 p.rx_deliv sn) packet p in
+    counted_held s (pdcp_count 4096 2048 p.rx_deliv sn) packet p in
     let second : numbered s (Ok (sn, packet)) p ≡ handed_up s bytes p = ap (λ r. numbered s r p) is in
     ap (λ r. answered r state) (first ∙ second) ∙ receives_up bytes state none short
 
 -- taking out -------------------------------------------------------------------------------------------------------
 
-stored-without : (c : ℕ) (ss : List Stored) (k : ℕ) → is_stored (without c ss) k ≡ true → is_stored ss k ≡ true
-stored-without c [] k e = e
-stored-without c (s ∷ ss) k e = go (eqb s.count c) (stored-without c ss k) e
+stored_without : (c : ℕ) (ss : List Stored) (k : ℕ) → is_stored (without c ss) k ≡ true → is_stored ss k ≡ true
+stored_without c [] k e = e
+stored_without c (s ∷ ss) k e = go (eqb s.count c) (stored_without c ss k) e
   where
     go : (b : Bool) → (is_stored (without c ss) k ≡ true → is_stored ss k ≡ true) → is_stored (cond b ss (s ∷ without c ss)) k ≡ true → is_stored (s ∷ ss) k ≡ true
     go true rest f = or_right (eqb s.count k) (is_stored ss k) f
@@ -60,12 +60,12 @@ stored-without c (s ∷ ss) k e = go (eqb s.count c) (stored-without c ss k) e
         (or_cases (eqb s.count k) (is_stored (without c ss) k) f)
 
 -- what is left is below what it was
-pub below-taken : (high c : ℕ) (buffer : Bytes) (ss : List Stored) → Below high ss → Below high (taken c buffer ss).2
-below-taken high c buffer ss below = go (found ss c)
+pub below_taken : (high c : ℕ) (buffer : Bytes) (ss : List Stored) → Below high ss → Below high (taken c buffer ss).2
+below_taken high c buffer ss below = go (found ss c)
   where
     short : (b : Bool) (kept gone : Option ℕ × Bytes × List Stored) → kept.2 ≡ ss → gone.2 ≡ without c ss → Below high (cond b kept gone).2
     short true kept gone same less k e = below k (ap (λ rest. is_stored rest k) (sym same) ∙ e)
-    short false kept gone same less k e = below k (stored-without c ss k (ap (λ rest. is_stored rest k) (sym less) ∙ e))
+    short false kept gone same less k e = below k (stored_without c ss k (ap (λ rest. is_stored rest k) (sym less) ∙ e))
 
     go : (o : Option Bytes) → Below high (taken_if o c buffer ss).2
     go None = below

@@ -1,6 +1,6 @@
 -- A ring of places as a function of COUNTs, and the window that it shows.
 use Rattle.std.proofs.Common.{◌≡◌, ℕ, suc, ◌+◌, ◌-◌, ◌*◌, ◌%◌, ◌<◌, ◌≤◌, Bool, true, false, cond, eqb, ltb, leb, List, [], ◌++◌, map, length, get_or, set, is_some, Some, None, Option, sym, refl, ap, ◌∙◌, subst, ⊎_elim, arith}
-use Rattle.pdcp.proofs.Listings.{stored-found, listed_same, listed_none, listed_split, found_outside, found_at, listed-insert, listed-without}
+use Rattle.pdcp.proofs.Listings.{stored_found, listed_same, listed_none, listed_split, found_outside, found_at, listed_insert, listed_without}
 use Rattle.pdcp.specs.Places.{Each, has_place, noted, packet_in, no_place, under, listed, copied_out}
 use Rattle.pdcp.specs.Stores.{held_in, Near, found, taken, taken_if, without, lowest_of}
 use Rattle.pdcp.specs.declared.places.Place.{Place}
@@ -58,17 +58,17 @@ unfolding held_in
 found_none places first c out = found_outside (under places) 16 first c out
 
 -- whether a COUNT is stored, by whether it has a place
-pub stored-inside : (places : List Place) (first c : ℕ) → has_place first c ≡ true → is_stored (held_in places first) c ≡ is_some (under places c)
-stored-inside places first c e =
+pub stored_inside : (places : List Place) (first c : ℕ) → has_place first c ≡ true → is_stored (held_in places first) c ≡ is_some (under places c)
+stored_inside places first c e =
     let within = and_parts (leb first c) (ltb c (first + 16)) e in
-    stored-found (held_in places first) c ∙ ap is_some (found_inside places first c (leb-true first c within.0) (ltb-true c (first + 16) within.1))
+    stored_found (held_in places first) c ∙ ap is_some (found_inside places first c (leb-true first c within.0) (ltb-true c (first + 16) within.1))
 
 pub out_of_window : (first c : ℕ) → has_place first c ≡ false → first ≤ c → c < first + 16 → ⊥
 out_of_window first c e lo hi =
     ⊎_elim (λ h. omega (arith, leb-false first c h, lo)) (λ h. omega (arith, ltb-false c (first + 16) h, hi)) (and_cases (leb first c) (ltb c (first + 16)) e)
 
 pub stored_outside : (places : List Place) (first c : ℕ) → has_place first c ≡ false → is_stored (held_in places first) c ≡ false
-stored_outside places first c e = stored-found (held_in places first) c ∙ ap is_some (found_none places first c (out_of_window first c e))
+stored_outside places first c e = stored_found (held_in places first) c ∙ ap is_some (found_none places first c (out_of_window first c e))
 
 none_if : (o : Option Bytes) → (is_some o ≡ true → ⊥) → o ≡ None
 none_if None not_some = refl
@@ -76,7 +76,7 @@ none_if (Some packet) not_some = absurd (not_some refl)
 
 -- where no stored COUNT may be, nothing stands
 none_under : (places : List Place) (first k : ℕ) → first ≤ k → k < first + 16 → (is_stored (held_in places first) k ≡ true → ⊥) → under places k ≡ None
-none_under places first k lo hi out = none_if (under places k) (λ some. out (stored-found (held_in places first) k ∙ ap is_some (found_inside places first k lo hi) ∙ some))
+none_under places first k lo hi out = none_if (under places k) (λ some. out (stored_found (held_in places first) k ∙ ap is_some (found_inside places first k lo hi) ∙ some))
 
 turned : (places : List Place) (j k : ℕ) → j % 16 ≡ k % 16 → under places j ≡ under places k
 turned places j k e = ap (λ i. get_or (map packet_in places) i None) e
@@ -106,17 +106,17 @@ three answer written x = (answer, written, x)
 
 -- one place changed
 module _ (places : List Place) (first c : ℕ) (sized : length places ≡ 16) (lo : first ≤ c) (hi : c < first + 16) (place : Place) where
-  pub held-insert : (packet : Bytes) → packet_in place ≡ Some packet → is_stored (held_in places first) c ≡ false
+  pub held_insert : (packet : Bytes) → packet_in place ≡ Some packet → is_stored (held_in places first) c ≡ false
       → held_in (set places (c % 16) place) first ≡ insert (record { count = c; packet = packet }) (held_in places first)
   unfolding held_in
-  held-insert packet is new =
+  held_insert packet is new =
       under-set places first c place sized lo hi ∙ ap (λ o. listed (update (under places) c o) 16 first) is
-      ∙ listed-insert (under places) c packet 16 first (none_under places first c lo hi (both_ways _ new)) lo hi
+      ∙ listed_insert (under places) c packet 16 first (none_under places first c lo hi (both_ways _ new)) lo hi
 
-  held-without : (packet : Bytes) → packet_in place ≡ None → under places c ≡ Some packet → held_in (set places (c % 16) place) first ≡ without c (held_in places first)
+  held_without : (packet : Bytes) → packet_in place ≡ None → under places c ≡ Some packet → held_in (set places (c % 16) place) first ≡ without c (held_in places first)
   unfolding held_in
-  held-without packet is some =
-      under-set places first c place sized lo hi ∙ ap (λ o. listed (update (under places) c o) 16 first) is ∙ listed-without (under places) c packet 16 first some lo hi
+  held_without packet is some =
+      under-set places first c place sized lo hi ∙ ap (λ o. listed (update (under places) c o) 16 first) is ∙ listed_without (under places) c packet 16 first some lo hi
 
   held_same : packet_in place ≡ under places c → held_in (set places (c % 16) place) first ≡ held_in places first
   unfolding held_in
@@ -129,9 +129,9 @@ module _ (places : List Place) (first c : ℕ) (sized : length places ≡ 16) (l
       go k false e = refl
 
   -- what taking the packet of COUNT c out of its place leaves in the ring
-  pub held-taken : (answer : Option ℕ) (buffer written : Bytes) → three answer written (packet_in place) ≡ copied_out (under places c) buffer
+  pub held_taken : (answer : Option ℕ) (buffer written : Bytes) → three answer written (packet_in place) ≡ copied_out (under places c) buffer
       → three answer written (held_in (set places (c % 16) place) first) ≡ taken c buffer (held_in places first)
-  held-taken answer buffer written e =
+  held_taken answer buffer written e =
       go (under places c) refl e ∙ ap (λ o. taken_if o c buffer (held_in places first)) (sym (found_inside places first c lo hi))
     where
       left : {a : Option ℕ} {w : Bytes} {o : Option Bytes} (ss : List Stored) → three answer written (packet_in place) ≡ three a w o
@@ -143,7 +143,7 @@ module _ (places : List Place) (first c : ℕ) (sized : length places ≡ 16) (l
           → three answer written (held_in (set places (c % 16) place) first)
           ≡ cond b (three None buffer (held_in places first)) (three (Some (length packet)) (put packet buffer) (without c (held_in places first)))
       short packet true is f = left (held_in places first) f (held_same (ap (λ t. t.2) f ∙ sym is))
-      short packet false is f = left (without c (held_in places first)) f (held-without packet (ap (λ t. t.2) f) is)
+      short packet false is f = left (without c (held_in places first)) f (held_without packet (ap (λ t. t.2) f) is)
 
       go : (o : Option Bytes) → under places c ≡ o → three answer written (packet_in place) ≡ copied_out o buffer
           → three answer written (held_in (set places (c % 16) place) first) ≡ taken_if o c buffer (held_in places first)
@@ -182,7 +182,7 @@ pub lowest_noted : (o : Option Bytes) (k : ℕ) (rest : List Stored) → is_some
 lowest_noted None k rest e = absurd (both_ways false refl e)
 lowest_noted (Some packet) k rest e = refl
 
-pub due-noted : (o : Option Bytes) (deliv k : ℕ) (rest : List Stored) → k < deliv → is_some o ≡ true
+pub due_noted : (o : Option Bytes) (deliv k : ℕ) (rest : List Stored) → k < deliv → is_some o ≡ true
     → length (due_of deliv (noted o k rest)) ≡ 1 + length (due_of deliv rest)
-due-noted None deliv k rest h e = absurd (both_ways false refl e)
-due-noted (Some packet) deliv k rest h e = ap length (cond-true _ _ _ (lt-ltb k deliv h)) ∙ omega arith
+due_noted None deliv k rest h e = absurd (both_ways false refl e)
+due_noted (Some packet) deliv k rest h e = ap length (cond-true _ _ _ (lt-ltb k deliv h)) ∙ omega arith

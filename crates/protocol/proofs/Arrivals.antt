@@ -1,10 +1,10 @@
 -- What either end put, the other reads: no PDU of a lawful series is refused for its content.
 use Rattle.std.proofs.Common.{◌≡◌, ℕ, ◌+◌, ◌%◌, ◌<◌, ◌≤◌, Bool, true, false, cond, ◌||◌, ltb, leb, List, [], ◌∷◌, ◌++◌, length, Some, None, Ok, MatchBool, Option, sym, refl, ap, ◌∙◌, subst, inl, inr, ⊎_elim, arith}
-use Rattle.protocol.proofs.Between.{Data, Told, LinkSound, link-new, next-behind, top_window, all-at}
+use Rattle.protocol.proofs.Between.{Data, Told, LinkSound, link_new, next_behind, top_window, all_at}
 use Rattle.protocol.proofs.Calls.{data_read, data_arrives}
 use Rattle.protocol.proofs.Delivered.{event_keeps}
 use Rattle.protocol.proofs.FarKept.{Taken}
-use Rattle.protocol.proofs.Formats.{written-reads-back}
+use Rattle.protocol.proofs.Formats.{written_reads_back}
 use Rattle.protocol.proofs.PdcpKept.{Handed, handed_sound}
 use Rattle.protocol.specs.Airs.{Waiting, LetsOut, takes, Takes, laid, max_pdu}
 use Rattle.protocol.specs.Bytes.{Bytes}
@@ -32,7 +32,7 @@ module _ {acc got : List Bytes} {ran : Bool} {r : State} (sound : LinkSound acc 
     where
       read : decode Near w.pdu ≡ Ok (status (t.ack % 4096) t.entries)
       read =
-          ap (decode Near) t.pdu_is ∙ written-reads-back (status (t.ack % 4096) t.entries) (omega arith, t.fit)
+          ap (decode Near) t.pdu_is ∙ written_reads_back (status (t.ack % 4096) t.entries) (omega arith, t.fit)
           ∙ ap (λ f. unless f (Ok (status (t.ack % 4096) t.entries))) t.readable
 
       by_stale : (old : Bool)
@@ -56,7 +56,7 @@ module _ {acc got : List Bytes} {ran : Bool} {r : State} (sound : LinkSound acc 
           handed : Handed acc got ran s x r.link.pdcp
           handed =
               handed_sound acc got ran s x r.link.pdcp sound.near_sound.packets sound.pdcp_sound
-              (omega (arith, begun, sound.near_sound.begun, sound.near_sound.next)) (omega (arith, begun, top_window sound, next-behind sound))
+              (omega (arith, begun, sound.near_sound.begun, sound.near_sound.next)) (omega (arith, begun, top_window sound, next_behind sound))
               (omega (arith, young, sound.pdcp_sound.deliv_to, sound.next, sound.seen))
 
           go : (whole : Bool) → far.complete (far.received d.part (r.link.far.sdu x)) ≡ whole
@@ -97,7 +97,7 @@ module _ {acc got : List Bytes} {ran : Bool} {r : State} (sound : LinkSound acc 
       go false t None lets = tt
       go false true (Some pdu) lets =
           report_well sound s (laid (Some pdu) buffer) (record { pdu = pdu; age = lets.0.0 })
-          (all-at (Told r.link.far sound.most) (record { pdu = pdu; age = lets.0.0 }) r.back lets.0.1 sound.back)
+          (all_at (Told r.link.far sound.most) (record { pdu = pdu; age = lets.0.0 }) r.back lets.0.1 sound.back)
       go false false (Some pdu) still = let z : ◌≡◌ {A = ℕ} 0 1 = cc still.0 in absurd (omega (arith, z))
 
   far_well : (draw : ℕ) (buffer : Bytes) (out : Option Bytes) (forward : List Waiting)
@@ -114,7 +114,7 @@ module _ {acc got : List Bytes} {ran : Bool} {r : State} (sound : LinkSound acc 
       go false false t None lets = tt
       go false false true (Some pdu) lets =
           data_well sound s (laid (Some pdu) buffer) (record { pdu = pdu; age = lets.0.0 })
-          (all-at (Data acc (near.top r.link.near)) (record { pdu = pdu; age = lets.0.0 }) r.forward lets.0.1 sound.forward)
+          (all_at (Data acc (near.top r.link.near)) (record { pdu = pdu; age = lets.0.0 }) r.forward lets.0.1 sound.forward)
       go false false false (Some pdu) still = let z : ◌≡◌ {A = ℕ} 0 1 = cc still.0 in absurd (omega (arith, z))
 
   event_well : (e : Event) (call : link.Call) → AirsKeep s r e call → ArrivesWell call (link.does s call e.out r.link).answer
@@ -140,4 +140,4 @@ series_well s (e ∷ es) acc got ran r sound lawful = (
 )
 
 pub nothing_refused : NothingRefused
-nothing_refused s es lawful = series_well s es [] [] false new_state link-new lawful
+nothing_refused s es lawful = series_well s es [] [] false new_state link_new lawful

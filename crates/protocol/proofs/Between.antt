@@ -22,8 +22,8 @@ use Rattle.std.specs.List.{AllByRecursion}
 -- numbers that are read with a base ------------------------------------------------------------------------------------
 
 -- a count in the window of the modulus is read as itself
-pub read-ahead : (base x : ℕ) → base ≤ x → x < base + 4096 → count_from 4096 base (x % 4096) ≡ x
-read-ahead base x lo hi = sym ((one_count 4096 base (x % 4096) x (omega arith)).1 (refl, lo, hi))
+pub read_ahead : (base x : ℕ) → base ≤ x → x < base + 4096 → count_from 4096 base (x % 4096) ≡ x
+read_ahead base x lo hi = sym ((one_count 4096 base (x % 4096) x (omega arith)).1 (refl, lo, hi))
 
 -- one behind it, as the one a modulus later
 pub read_behind : (base x : ℕ) → x < base → base ≤ x + 4096 → count_from 4096 base (x % 4096) ≡ x + 4096
@@ -74,8 +74,8 @@ pub record LinkSound (acc got : List Bytes) (ran : Bool) (r : State) : Type 0 wh
   pub acknowledged_to : (x : ℕ) → (r.link.near.sdu x).acknowledged ≡ true → x < most
   pub back : AllByRecursion (Told r.link.far most) r.back
 
-pub link-new : LinkSound [] [] false new_state
-link-new =
+pub link_new : LinkSound [] [] false new_state
+link_new =
     record {
       near_sound = near_new;
       far_sound = far_new;
@@ -95,8 +95,8 @@ link-new =
 
 module _ {acc got : List Bytes} {ran : Bool} {r : State} (sound : LinkSound acc got ran r) where
   -- what is below the near window is acknowledged, so it is complete
-  pub ack-behind : r.link.near.tx_next_ack ≤ r.link.far.rx_next
-  ack-behind =
+  pub ack_behind : r.link.near.tx_next_ack ≤ r.link.far.rx_next
+  ack_behind =
       ⊎_elim (λ h. absurd (both_ways (far.complete (r.link.far.sdu r.link.far.rx_next)) sound.far_sound.lowest (sound.acknowledged _ (below h)))) (λ h. h)
       (cases_lt r.link.far.rx_next r.link.near.tx_next_ack)
     where
@@ -104,8 +104,8 @@ module _ {acc got : List Bytes} {ran : Bool} {r : State} (sound : LinkSound acc 
       below h = ap (λ s. s.acknowledged) (sound.near_sound.below _ h)
 
   -- every complete count is held by PDCP, and RX_DELIV is not
-  pub next-behind : r.link.far.rx_next ≤ r.link.pdcp.rx_deliv
-  next-behind =
+  pub next_behind : r.link.far.rx_next ≤ r.link.pdcp.rx_deliv
+  next_behind =
       ⊎_elim (λ h. absurd (not_held (sound.complete _ (whole h)))) (λ h. h) (cases_lt r.link.pdcp.rx_deliv r.link.far.rx_next)
     where
       whole : r.link.pdcp.rx_deliv < r.link.far.rx_next → far.complete (r.link.far.sdu r.link.pdcp.rx_deliv) ≡ true
@@ -116,7 +116,7 @@ module _ {acc got : List Bytes} {ran : Bool} {r : State} (sound : LinkSound acc 
       not_held (inr h) = both_ways _ sound.pdcp_sound.awaited h
 
   pub top_window : near.top r.link.near ≤ r.link.far.rx_next + 16
-  top_window = omega (arith, ack-behind, sound.near_sound.begun, sound.near_sound.window)
+  top_window = omega (arith, ack_behind, sound.near_sound.begun, sound.near_sound.window)
 
   -- what was acknowledged is below `most`
   pub ack_most : r.link.near.tx_next_ack ≤ sound.most
@@ -129,9 +129,9 @@ module _ {acc got : List Bytes} {ran : Bool} {r : State} (sound : LinkSound acc 
 
 -- after a Put: each is older by one, and the new PDU is there
 module _ (P Q : Waiting → Type 0) (older : (w : Waiting) → suc w.age < 64 → P w → Q (record { pdu = w.pdu; age = suc w.age })) where
-  aged-all : (ws : List Waiting) → AllByRecursion P ws → AllByRecursion Q (aged ws)
-  aged-all [] all = tt
-  aged-all (w ∷ ws) all = go (ltb (suc w.age) age_limit) refl (aged-all ws all.1)
+  aged_all : (ws : List Waiting) → AllByRecursion P ws → AllByRecursion Q (aged ws)
+  aged_all [] all = tt
+  aged_all (w ∷ ws) all = go (ltb (suc w.age) age_limit) refl (aged_all ws all.1)
     where
       go : (young : Bool) → ltb (suc w.age) age_limit ≡ young → AllByRecursion Q (aged ws)
           → AllByRecursion Q (cond young (record { pdu = w.pdu; age = suc w.age } ∷ aged ws) (aged ws))
@@ -146,8 +146,8 @@ module _ (P Q : Waiting → Type 0) (older : (w : Waiting) → suc w.age < 64 �
   put_all pdu before after all q within = all_within Q within (go (carries pdu))
     where
       go : (b : Bool) → AllByRecursion Q (cond b (aged before ++ record { pdu = pdu; age = 0 } ∷ []) (aged before))
-      go true = all_push (aged before) (record { pdu = pdu; age = 0 }) (aged-all before all) q
-      go false = aged-all before all
+      go true = all_push (aged before) (record { pdu = pdu; age = 0 }) (aged_all before all) q
+      go false = aged_all before all
 
 -- each PDU that waits, seen another way
 pub all_map : {A : Type 0} (P Q : A → Type 0) (xs : List A) → ((x : A) → P x → Q x) → AllByRecursion P xs → AllByRecursion Q xs
@@ -155,5 +155,5 @@ all_map P Q [] f all = tt
 all_map P Q (x ∷ xs) f all = (f x all.0, all_map P Q xs f all.1)
 
 -- what is let out was among them
-pub all-at : {A : Type 0} (P : A → Type 0) (x : A) (xs : List A) → Within (x ∷ []) xs → AllByRecursion P xs → P x
-all-at P x xs within all = (all_within P within all).0
+pub all_at : {A : Type 0} (P : A → Type 0) (x : A) (xs : List A) → Within (x ∷ []) xs → AllByRecursion P xs → P x
+all_at P x xs within all = (all_within P within all).0

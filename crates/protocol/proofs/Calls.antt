@@ -1,14 +1,14 @@
 -- Each call keeps the invariant of the link.
 use Rattle.std.proofs.Common.{◌≡◌, ℕ, suc, ◌+◌, ◌-◌, ◌%◌, ◌<◌, ◌≤◌, max, Bool, true, false, cond, ◌||◌, eqb, ltb, leb, ◌⊎◌, List, [], ◌∷◌, ◌++◌, length, Some, None, Ok, Option, sym, refl, ap, ◌∙◌, subst, ⊎_elim, arith}
-use Rattle.protocol.proofs.Between.{read-ahead, read_behind, Data, Told, LinkSound, next-behind, top_window, ack_most, put_all, all_map}
-use Rattle.protocol.proofs.FarKept.{SameSdus, Taken, far_given, sdu-given, sdu-short, far_arrives, far_discarded, far_reported, far_ticked}
-use Rattle.protocol.proofs.Formats.{written-reads-back}
+use Rattle.protocol.proofs.Between.{read_ahead, read_behind, Data, Told, LinkSound, next_behind, top_window, ack_most, put_all, all_map}
+use Rattle.protocol.proofs.FarKept.{SameSdus, Taken, far_given, sdu_given, sdu_short, far_arrives, far_discarded, far_reported, far_ticked}
+use Rattle.protocol.proofs.Formats.{written_reads_back}
 use Rattle.protocol.proofs.Invariants.{PartOf, sdu, FarSound, PdcpSound}
-use Rattle.protocol.proofs.NearKept.{near_given, given-acknowledged, given-top}
+use Rattle.protocol.proofs.NearKept.{near_given, given_acknowledged, given_top}
 use Rattle.protocol.proofs.NearMoved.{ReportedKept, near_reported, TickedKept, near_ticked}
 use Rattle.protocol.proofs.NearSpent.{SpentKept, near_spent}
 use Rattle.protocol.proofs.PdcpKept.{Held, given_sound, Handed, handed_sound, collected_sound, collected_keeps, ticked_sound, ticked_keeps}
-use Rattle.protocol.proofs.Reports.{Reports, report_right, report_pdu, report-fits, entries-valid, unnamed_complete, named_in}
+use Rattle.protocol.proofs.Reports.{Reports, report_right, report_pdu, report_fits, entries_valid, unnamed_complete, named_in}
 use Rattle.protocol.proofs.Strikes.{all_within}
 use Rattle.protocol.specs.Airs.{Waiting, Within}
 use Rattle.protocol.specs.Bytes.{Bytes}
@@ -87,22 +87,22 @@ module _ (acc got : List Bytes) (ran : Bool) (r : State) (sound : LinkSound acc 
         near_sound = near_given acc n p sound.near_sound some short room few;
         far_sound = far_given acc p r.link.far sound.far_sound;
         pdcp_sound = given_sound acc got ran p r.link.pdcp sound.pdcp_sound;
-        acknowledged = λ x e. sound.acknowledged x (sym (given-acknowledged acc n p sound.near_sound x) ∙ e);
+        acknowledged = λ x e. sound.acknowledged x (sym (given_acknowledged acc n p sound.near_sound x) ∙ e);
         complete = sound.complete;
-        seen = omega (arith, sound.seen, top-same);
+        seen = omega (arith, sound.seen, top_same);
         next = sound.next;
         forward = all_map (Data acc (near.top n)) (Data (acc ++ p ∷ []) (near.top (near.given p n))) r.forward kept_data sound.forward;
         most = sound.most;
         most_to = sound.most_to;
-        acknowledged_to = λ x e. sound.acknowledged_to x (sym (given-acknowledged acc n p sound.near_sound x) ∙ e);
+        acknowledged_to = λ x e. sound.acknowledged_to x (sym (given_acknowledged acc n p sound.near_sound x) ∙ e);
         back = sound.back;
       }
     where
       n : near.Near
       n = r.link.near
 
-      top-same : near.top (near.given p r.link.near) ≡ near.top r.link.near
-      top-same = given-top acc r.link.near p sound.near_sound
+      top_same : near.top (near.given p r.link.near) ≡ near.top r.link.near
+      top_same = given_top acc r.link.near p sound.near_sound
 
       kept_data : (w : Waiting) → Data acc (near.top r.link.near) w → Data (acc ++ p ∷ []) (near.top (near.given p r.link.near)) w
       kept_data w d =
@@ -112,10 +112,10 @@ module _ (acc got : List Bytes) (ran : Bool) (r : State) (sound : LinkSound acc 
             pdu_is = d.pdu_is;
             true_part =
                 subst (λ bytes. PartOf bytes d.count d.part)
-                (sym (sdu-given acc p d.count (omega (arith, d.begun, sound.near_sound.begun, sound.near_sound.next)))) d.true_part;
+                (sym (sdu_given acc p d.count (omega (arith, d.begun, sound.near_sound.begun, sound.near_sound.next)))) d.true_part;
             readable = d.readable;
-            begun = omega (arith, d.begun, top-same);
-            young = omega (arith, d.young, top-same);
+            begun = omega (arith, d.begun, top_same);
+            young = omega (arith, d.young, top_same);
             recent = d.recent;
           }
 
@@ -129,14 +129,14 @@ module _ (acc got : List Bytes) (ran : Bool) (r : State) (sound : LinkSound acc 
         near_sound = after.sound;
         far_sound = sound.far_sound;
         pdcp_sound = sound.pdcp_sound;
-        acknowledged = λ x e. sound.acknowledged x (sym (after.same-acknowledged x) ∙ e);
+        acknowledged = λ x e. sound.acknowledged x (sym (after.same_acknowledged x) ∙ e);
         complete = sound.complete;
         seen = omega (arith, sound.seen, after.top_grows);
         next = sound.next;
         forward = put_all (Data acc (near.top n)) (Data acc (near.top (near.spent s run n))) older (encode (amd (near.amd_of_run s run n))) r.forward forward sound.forward new puts;
         most = sound.most;
         most_to = sound.most_to;
-        acknowledged_to = λ x e. sound.acknowledged_to x (sym (after.same-acknowledged x) ∙ e);
+        acknowledged_to = λ x e. sound.acknowledged_to x (sym (after.same_acknowledged x) ∙ e);
         back = sound.back;
       }
     where
@@ -167,7 +167,7 @@ module _ (acc got : List Bytes) (ran : Bool) (r : State) (sound : LinkSound acc 
             part = near.amd_of_run s run r.link.near;
             pdu_is = refl;
             true_part = k.part;
-            readable = run_readable s acc run r.link.near k.part (sdu-short acc run.count sound.near_sound.packets (omega (arith, k.high, sound.near_sound.next)));
+            readable = run_readable s acc run r.link.near k.part (sdu_short acc run.count sound.near_sound.packets (omega (arith, k.high, sound.near_sound.next)));
             begun = k.begun;
             young = omega (arith, k.sound.begun, k.sound.window, k.same_first, k.low);
             recent = omega arith;
@@ -225,10 +225,10 @@ module _ (acc got : List Bytes) (ran : Bool) (r : State) (sound : LinkSound acc 
             ack = (far.report r.link.far g).ack;
             entries = (far.report r.link.far g).entries;
             pdu_is = refl;
-            fit = (report-fits acc r.link.far g sound.near_sound.packets sound.far_sound).1;
-            readable = entries-valid r.link.far.rx_next (far.report r.link.far g).ack 3 (far.report r.link.far g).entries (omega (arith, right.ack_to, sound.far_sound.status_to, sound.far_sound.window)) right.true_entries;
+            fit = (report_fits acc r.link.far g sound.near_sound.packets sound.far_sound).1;
+            readable = entries_valid r.link.far.rx_next (far.report r.link.far g).ack 3 (far.report r.link.far g).entries (omega (arith, right.ack_to, sound.far_sound.status_to, sound.far_sound.window)) right.true_entries;
             ack_to = omega arith;
-            young = omega (arith, right.ack-from, sound.most_to, sound.far_sound.window);
+            young = omega (arith, right.ack_from, sound.most_to, sound.far_sound.window);
             recent = omega arith;
             true_report = λ x l unnamed. unnamed_complete acc r.link.far g x sound.near_sound.packets sound.far_sound l unnamed;
           }
@@ -241,14 +241,14 @@ module _ (acc got : List Bytes) (ran : Bool) (r : State) (sound : LinkSound acc 
         near_sound = k.sound;
         far_sound = sound.far_sound;
         pdcp_sound = sound.pdcp_sound;
-        acknowledged = λ x e. sound.acknowledged x (sym (k.same-acknowledged x) ∙ e);
+        acknowledged = λ x e. sound.acknowledged x (sym (k.same_acknowledged x) ∙ e);
         complete = sound.complete;
-        seen = omega (arith, sound.seen, k.same-top);
+        seen = omega (arith, sound.seen, k.same_top);
         next = sound.next;
-        forward = subst (λ top. AllByRecursion (Data acc top) r.forward) (sym k.same-top) sound.forward;
+        forward = subst (λ top. AllByRecursion (Data acc top) r.forward) (sym k.same_top) sound.forward;
         most = sound.most;
         most_to = sound.most_to;
-        acknowledged_to = λ x e. sound.acknowledged_to x (sym (k.same-acknowledged x) ∙ e);
+        acknowledged_to = λ x e. sound.acknowledged_to x (sym (k.same_acknowledged x) ∙ e);
         back = sound.back;
       }
     where
@@ -277,8 +277,8 @@ module _ (acc got : List Bytes) (ran : Bool) (r : State) (sound : LinkSound acc 
         near_sound = sound.near_sound;
         far_sound = k.0;
         pdcp_sound = ticked_sound acc got ran s r.link.pdcp sound.pdcp_sound;
-        acknowledged = λ x e. ap far.complete (k.1.sdus-same x) ∙ sound.acknowledged x e;
-        complete = λ x e. holds.0 x (sound.complete x (ap far.complete (sym (k.1.sdus-same x)) ∙ e));
+        acknowledged = λ x e. ap far.complete (k.1.sdus_same x) ∙ sound.acknowledged x e;
+        complete = λ x e. holds.0 x (sound.complete x (ap far.complete (sym (k.1.sdus_same x)) ∙ e));
         seen = omega (arith, sound.seen, k.1.highest_same);
         next = omega (arith, sound.next, k.1.highest_same, holds.1);
         forward = sound.forward;
@@ -287,7 +287,7 @@ module _ (acc got : List Bytes) (ran : Bool) (r : State) (sound : LinkSound acc 
         acknowledged_to = sound.acknowledged_to;
         back =
             all_map (Told r.link.far sound.most) (Told (far.tick_far s r.link.far) sound.most) r.back
-            (told_same sound.most r.link.far (far.tick_far s r.link.far) (λ x e. ap far.complete ((far_ticked s acc r.link.far sound.far_sound).1.sdus-same x) ∙ e)) sound.back;
+            (told_same sound.most r.link.far (far.tick_far s r.link.far) (λ x e. ap far.complete ((far_ticked s acc r.link.far sound.far_sound).1.sdus_same x) ∙ e)) sound.back;
       }
     where
       k : FarSound acc (far.tick_far s r.link.far) × SameSdus r.link.far (far.tick_far s r.link.far)
@@ -311,9 +311,9 @@ module _ (acc got : List Bytes) (ran : Bool) (r : State) (sound : LinkSound acc 
         pdcp_sound = sound.pdcp_sound;
         acknowledged = λ x e. ⊎_elim (sound.acknowledged x) (λ new. newly x new e) (k.was_reported x e);
         complete = sound.complete;
-        seen = omega (arith, sound.seen, k.same-top);
+        seen = omega (arith, sound.seen, k.same_top);
         next = sound.next;
-        forward = subst (λ top. AllByRecursion (Data acc top) r.forward) (sym k.same-top) sound.forward;
+        forward = subst (λ top. AllByRecursion (Data acc top) r.forward) (sym k.same_top) sound.forward;
         most = sound.most;
         most_to = sound.most_to;
         acknowledged_to = λ x e. ⊎_elim (sound.acknowledged_to x) (λ new. omega (arith, new.0, t.ack_to)) (k.was_reported x e);
@@ -336,7 +336,7 @@ module _ (acc got : List Bytes) (ran : Bool) (r : State) (sound : LinkSound acc 
       inside = omega (arith, t.ack_to, sound.most_to, sound.seen, sound.near_sound.begun)
 
       as_written : near.tx_count r.link.near (t.ack % 4096) ≡ t.ack
-      as_written = read-ahead r.link.near.tx_next_ack t.ack not_late (omega (arith, inside, sound.near_sound.window))
+      as_written = read_ahead r.link.near.tx_next_ack t.ack not_late (omega (arith, inside, sound.near_sound.window))
 
       k : ReportedKept s acc r.link.near t.ack t.entries
       k = near_reported s acc r.link.near t.ack t.entries sound.near_sound inside
@@ -348,7 +348,7 @@ module _ (acc got : List Bytes) (ran : Bool) (r : State) (sound : LinkSound acc 
           ⊎_elim (λ below. sound.acknowledged x (ap (λ sdu. sdu.acknowledged) (sound.near_sound.below x below)))
           (λ from.
           let begun = k.sound.acknowledged x e in
-          let count = read-ahead r.link.near.tx_next_ack x from (omega (arith, begun, k.same-top, sound.near_sound.begun, sound.near_sound.window)) in
+          let count = read_ahead r.link.near.tx_next_ack x from (omega (arith, begun, k.same_top, sound.near_sound.begun, sound.near_sound.window)) in
           t.true_report x new.0 (λ names. both_ways _ new.1 (named_in r.link.near t.entries x count names)))
           (cases_lt x r.link.near.tx_next_ack)
 
@@ -359,7 +359,7 @@ module _ (acc got : List Bytes) (ran : Bool) (r : State) (sound : LinkSound acc 
       (by_fault (pdu_fault (status (t.ack % 4096) t.entries)))
     where
       read : decode Near w.pdu ≡ unless (pdu_fault (status (t.ack % 4096) t.entries)) (Ok (status (t.ack % 4096) t.entries))
-      read = ap (decode Near) t.pdu_is ∙ written-reads-back (status (t.ack % 4096) t.entries) (omega arith, t.fit)
+      read = ap (decode Near) t.pdu_is ∙ written_reads_back (status (t.ack % 4096) t.entries) (omega arith, t.fit)
 
       by_stale : (old : Bool) → ltb r.link.near.tx_next (near.tx_count r.link.near (t.ack % 4096)) ≡ old
           → LinkSound acc got ran
@@ -405,7 +405,7 @@ module _ (acc got : List Bytes) (ran : Bool) (r : State) (sound : LinkSound acc 
       handed : Handed acc got ran s x r.link.pdcp
       handed =
           handed_sound acc got ran s x r.link.pdcp sound.near_sound.packets sound.pdcp_sound
-          (omega (arith, begun, sound.near_sound.begun, sound.near_sound.next)) (omega (arith, begun, top_window sound, next-behind sound))
+          (omega (arith, begun, sound.near_sound.begun, sound.near_sound.next)) (omega (arith, begun, top_window sound, next_behind sound))
           (omega (arith, young, sound.pdcp_sound.deliv_to, sound.next, sound.seen))
 
       go : (whole : Bool) → far.complete (far.received a (r.link.far.sdu x)) ≡ whole
@@ -443,8 +443,8 @@ module _ (acc got : List Bytes) (ran : Bool) (r : State) (sound : LinkSound acc 
   pub data_read : (w : Waiting) (d : Data acc (near.top r.link.near) w) → decode Far w.pdu ≡ unless (pdu_fault (amd d.part)) (Ok (amd d.part))
   data_read w d =
       ap (decode Far) d.pdu_is
-      ∙ written-reads-back (amd d.part)
-      (omega (arith, d.true_part.number), so_fits d.part.segment (omega (arith, d.true_part.inside, sdu-short acc d.count sound.near_sound.packets small)))
+      ∙ written_reads_back (amd d.part)
+      (omega (arith, d.true_part.number), so_fits d.part.segment (omega (arith, d.true_part.inside, sdu_short acc d.count sound.near_sound.packets small)))
     where
       small : d.count < length acc
       small = omega (arith, d.begun, sound.near_sound.begun, sound.near_sound.next)
@@ -463,7 +463,7 @@ module _ (acc got : List Bytes) (ran : Bool) (r : State) (sound : LinkSound acc 
   data_arrives s w d =
       far_arrives s acc r.link.far d.count d.part sound.near_sound.packets sound.far_sound
       (omega (arith, d.begun, sound.near_sound.begun, sound.near_sound.next)) d.true_part
-      (omega (arith, sound.far_sound.status-from, sound.far_sound.status_to, sound.seen, d.young, d.recent)) (omega (arith, d.begun, top_window sound))
+      (omega (arith, sound.far_sound.status_from, sound.far_sound.status_to, sound.seen, d.young, d.recent)) (omega (arith, d.begun, top_window sound))
 
   pub read_far : (s : Settings) (buffer : Bytes) (w : Waiting) → Data acc (near.top r.link.near) w
       → LinkSound acc got ran (state (link.reads s Far w.pdu buffer r.link).link r.forward r.back)

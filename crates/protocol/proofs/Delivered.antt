@@ -1,6 +1,6 @@
 -- The delivery theorem: every event of a lawful series keeps the invariant, and the invariant delivers.
 use Rattle.std.proofs.Common.{◌≡◌, ℕ, ◌+◌, ◌<◌, Bool, true, false, cond, not, ◌||◌, ltb, leb, List, [], ◌∷◌, ◌++◌, length, take, drop, Some, None, Ok, Err, MatchBool, Option, Result, sym, refl, subst, append_assoc, arith}
-use Rattle.protocol.proofs.Between.{Data, Told, LinkSound, all-at}
+use Rattle.protocol.proofs.Between.{Data, Told, LinkSound, all_at}
 use Rattle.protocol.proofs.Calls.{state, unchanged, fewer, gave, sent, reported, ticked_near, ticked_far, read_near, read_far, collected_in as took_out}
 use Rattle.protocol.proofs.Reports.{report_pdu}
 use Rattle.protocol.proofs.Strikes.{within_all}
@@ -242,7 +242,7 @@ module _ (acc got : List Bytes) (ran : Bool) (r : State) (sound : LinkSound acc 
       by_out (Some pdu) lets short = go short
         where
           told : Told r.link.far sound.most (record { pdu = pdu; age = lets.0.0 })
-          told = all-at (Told r.link.far sound.most) (record { pdu = pdu; age = lets.0.0 }) r.back lets.0.1 sound.back
+          told = all_at (Told r.link.far sound.most) (record { pdu = pdu; age = lets.0.0 }) r.back lets.0.1 sound.back
 
           go : (b : Bool) → LinkSound acc got ran (state (cond b (link.refusing r.link (at ShortBuffer 0) buffer) (link.lets_in s Near (Some pdu) buffer r.link)).link r.forward back)
           go true = left back lets.1
@@ -278,7 +278,7 @@ module _ (acc got : List Bytes) (ran : Bool) (r : State) (sound : LinkSound acc 
       by_out (Some pdu) lets short = go short
         where
           data_in : Data acc (near.top r.link.near) (record { pdu = pdu; age = lets.0.0 })
-          data_in = all-at (Data acc (near.top r.link.near)) (record { pdu = pdu; age = lets.0.0 }) r.forward lets.0.1 sound.forward
+          data_in = all_at (Data acc (near.top r.link.near)) (record { pdu = pdu; age = lets.0.0 }) r.forward lets.0.1 sound.forward
 
           go : (b : Bool) → LinkSound acc got ran (state (cond b (link.refusing r.link (at ShortBuffer 0) buffer) (link.lets_in s Far (Some pdu) buffer r.link)).link forward r.back)
           go true = left forward lets.1

@@ -1,6 +1,6 @@
 -- A draft that took entries and is closed has written the status report of these entries.
 use Rattle.std.proofs.Common.{◌≡◌, ℕ, suc, ◌+◌, ◌-◌, ◌*◌, ◌/◌, ◌%◌, ◌<◌, ◌≤◌, Bool, true, false, cond, ltb, List, [], ◌∷◌, ◌++◌, length, take, drop, set, is_ok, Some, None, Ok, Err, Option, Result, sym, refl, ap, ◌∙◌, subst, ⊎_elim, append_assoc, add-zero, add_assoc, arith, length-append, length-drop}
-use Rattle.protocol.proofs.Formats.{written-reads-back}
+use Rattle.protocol.proofs.Formats.{written_reads_back}
 use Rattle.protocol.specs.Bytes.{Bytes, byte, flag, put, put_at}
 use Rattle.protocol.specs.Drafts.{Draft, Step, opened, add, sealed, close, closed_if, then, fill}
 use Rattle.protocol.specs.Laws.{DraftWrites, Fits}
@@ -116,11 +116,11 @@ fill_ok (e ∷ es) d buffer ok h =
 -- closing -----------------------------------------------------------------------------------------------------------
 
 -- the entry at i with E1 cleared
-abbrev sealed-at : ℕ → Bytes → Bytes
-sealed-at i bytes = set bytes (i + 1) (byte bytes (i + 1) - 8 * (byte bytes (i + 1) / 8 % 2))
+abbrev sealed_at : ℕ → Bytes → Bytes
+sealed_at i bytes = set bytes (i + 1) (byte bytes (i + 1) - 8 * (byte bytes (i + 1) / 8 % 2))
 
-sealed-past : (xs ys : Bytes) (n i : ℕ) → length xs ≡ n → sealed-at (n + i) (xs ++ ys) ≡ xs ++ sealed-at i ys
-sealed-past xs ys n i e =
+sealed_past : (xs ys : Bytes) (n i : ℕ) → length xs ≡ n → sealed_at (n + i) (xs ++ ys) ≡ xs ++ sealed_at i ys
+sealed_past xs ys n i e =
     let read : byte (xs ++ ys) (n + i + 1) ≡ byte ys (i + 1) = get_or-append_right xs ys n (n + i + 1) 0 e (omega arith) ∙ ap (λ k. byte ys k) (omega arith) in
     ap (λ b. set (xs ++ ys) (n + i + 1) (b - 8 * (b / 8 % 2))) read ∙ set-append_right xs ys n (n + i + 1) _ e (omega arith)
     ∙ ap (λ k. xs ++ set ys k (byte ys (i + 1) - 8 * (byte ys (i + 1) / 8 % 2))) (omega arith)
@@ -135,17 +135,17 @@ last_place_is last place e [] = sym (add-zero place)
 last_place_is last place e (f ∷ es) =
     last_place_is place (place + length (encode_entry true e)) f es ∙ add_assoc place (length (encode_entry true e)) (last_offset f es)
 
-e1-cleared : (n : ℕ) (missing : Missing) → let b = 16 * (n % 16) + 8 * 1 + 4 * e2 missing in b - 8 * (b / 8 % 2) ≡ 16 * (n % 16) + 8 * 0 + 4 * e2 missing
-e1-cleared n every = omega arith
-e1-cleared n (span so_start so_end) = omega arith
+e1_cleared : (n : ℕ) (missing : Missing) → let b = 16 * (n % 16) + 8 * 1 + 4 * e2 missing in b - 8 * (b / 8 % 2) ≡ 16 * (n % 16) + 8 * 0 + 4 * e2 missing
+e1_cleared n every = omega arith
+e1_cleared n (span so_start so_end) = omega arith
 
-entries-sealed : (e : Entry) (es : List Entry) (rest : Bytes)
-    → sealed-at (last_offset e es) (held (e ∷ es) ++ rest) ≡ encode_entries (e ∷ es) ++ rest
-entries-sealed e [] rest = ap (λ b. (e.nack_sn / 16) ∷ b ∷ ((span_fields e.missing ++ []) ++ rest)) (e1-cleared e.nack_sn e.missing)
-entries-sealed e (f ∷ es) rest =
-    ap (sealed-at (last_offset e (f ∷ es))) (append_assoc (encode_entry true e) (held (f ∷ es)) rest)
-    ∙ sealed-past (encode_entry true e) (held (f ∷ es) ++ rest) (length (encode_entry true e)) (last_offset f es) refl
-    ∙ ap (λ bytes. encode_entry true e ++ bytes) (entries-sealed f es rest)
+entries_sealed : (e : Entry) (es : List Entry) (rest : Bytes)
+    → sealed_at (last_offset e es) (held (e ∷ es) ++ rest) ≡ encode_entries (e ∷ es) ++ rest
+entries_sealed e [] rest = ap (λ b. (e.nack_sn / 16) ∷ b ∷ ((span_fields e.missing ++ []) ++ rest)) (e1_cleared e.nack_sn e.missing)
+entries_sealed e (f ∷ es) rest =
+    ap (sealed_at (last_offset e (f ∷ es))) (append_assoc (encode_entry true e) (held (f ∷ es)) rest)
+    ∙ sealed_past (encode_entry true e) (held (f ∷ es) ++ rest) (length (encode_entry true e)) (last_offset f es) refl
+    ∙ ap (λ bytes. encode_entry true e ++ bytes) (entries_sealed f es rest)
     ∙ sym (append_assoc (encode_entry true e) (encode_entries (f ∷ es)) rest)
 
 three_more : (n : ℕ) → 3 + n ≡ suc (suc (suc n))
@@ -162,10 +162,10 @@ sealed_is ack_sn (e ∷ es) buffer h =
     let headed = λ (b : Bytes). ack_sn / 256 ∷ ack_sn % 256 ∷ 128 ∷ b in
     let some : ltb 3 size ≡ true = lt-ltb 3 size (omega arith) in
     let three = length-take-le 3 buffer (omega arith) in
-    ap (λ t. ack_sn / 256 ∷ ack_sn % 256 ∷ (128 * flag t) ∷ drop 3 (cond t (sealed-at last bytes) bytes)) some
-    ∙ ap (λ i. headed (drop 3 (sealed-at i bytes))) (last_place_is 0 3 e es)
-    ∙ ap (λ b. headed (drop 3 b)) (sealed-past (take 3 buffer) (held (e ∷ es) ++ rest) 3 (last_offset e es) three)
-    ∙ ap headed (drop_at (take 3 buffer) (sealed-at (last_offset e es) (held (e ∷ es) ++ rest)) 3 three ∙ entries-sealed e es rest)
+    ap (λ t. ack_sn / 256 ∷ ack_sn % 256 ∷ (128 * flag t) ∷ drop 3 (cond t (sealed_at last bytes) bytes)) some
+    ∙ ap (λ i. headed (drop 3 (sealed_at i bytes))) (last_place_is 0 3 e es)
+    ∙ ap (λ b. headed (drop 3 b)) (sealed_past (take 3 buffer) (held (e ∷ es) ++ rest) 3 (last_offset e es) three)
+    ∙ ap headed (drop_at (take 3 buffer) (sealed_at (last_offset e es) (held (e ∷ es) ++ rest)) 3 three ∙ entries_sealed e es rest)
     ∙ ap (λ n. headed (encode_entries (e ∷ es) ++ drop (3 + n) buffer)) (sym (length_held (e ∷ es)))
     ∙ ap (λ n. headed (encode_entries (e ∷ es) ++ drop n buffer)) (three_more (length (encode_entries (e ∷ es))))
 
@@ -195,7 +195,7 @@ filled_closes ack_sn es buffer fits h =
     let own : take d.size (put bytes buffer) ≡ bytes = take_at bytes (drop (length bytes) buffer) d.size (sym size) in
     let closing : close ack_sn d b ≡ closed_if (unless (pdu_fault (status ack_sn es)) (Ok (status ack_sn es))) ack_sn d b =
     cond-false _ _ _ (le-ltb (length b) d.size (omega (arith, long, h)))
-    ∙ ap (λ r. closed_if r ack_sn d b) (ap (λ x. decode Near (take d.size x)) is ∙ ap (decode Near) own ∙ written-reads-back (status ack_sn es) fits) in
+    ∙ ap (λ r. closed_if r ack_sn d b) (ap (λ x. decode Near (take d.size x)) is ∙ ap (decode Near) own ∙ written_reads_back (status ack_sn es) fits) in
     let writing : write (status ack_sn es) buffer ≡ written (pdu_fault (status ack_sn es)) bytes buffer =
     cond-false _ _ _ (le-ltb (length buffer) (length bytes) (omega (arith, size, h))) in
     let c = closed_as (pdu_fault (status ack_sn es)) ack_sn (status ack_sn es) d bytes b buffer size is in (
@@ -215,8 +215,8 @@ none_taken ack_sn (e ∷ es) buffer ok h =
     let step = then_ok (add e opened buffer).answer (add e opened buffer) (fill es (add e opened buffer).draft (add e opened buffer).buffer) refl ok in
     absurd (omega (arith, (add_ok e opened buffer step.0).0, h))
 
-pub draft-writes : DraftWrites
-draft-writes ack_sn es buffer fits ok = ⊎_elim (none_taken ack_sn es buffer ok) (λ h. enough h (fill_ok es opened buffer ok h)) (cases_lt (length buffer) 3)
+pub draft_writes : DraftWrites
+draft_writes ack_sn es buffer fits ok = ⊎_elim (none_taken ack_sn es buffer ok) (λ h. enough h (fill_ok es opened buffer ok h)) (cases_lt (length buffer) 3)
   where
     enough : 3 ≤ length buffer → (3 + length (held es) ≤ length buffer) × (fill es opened buffer ≡ filled es opened buffer)
         → Closes ack_sn es buffer (fill es opened buffer)

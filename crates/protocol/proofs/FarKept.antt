@@ -11,21 +11,21 @@ use Rattle.protocol.specs.Settings.{Settings}
 use Rattle.protocol.specs.Timers.{Timer, stopped, running, endless, runs, runs_out, ticked, stopped_if}
 use Rattle.protocol.proofs.Counts.{one_count}
 use Rattle.protocol.proofs.Invariants.{Packets, sdu, PartOf, PartialSound, FarSound}
-use Rattle.protocol.proofs.Partials.{nothing_sound, received_sound, complete-bytes, complete-discards, part_fits}
-use Rattle.protocol.proofs.Seeks.{seek-from, seek_to, seek_found, seek-before, update_same, update_other}
+use Rattle.protocol.proofs.Partials.{nothing_sound, received_sound, complete_bytes, complete_discards, part_fits}
+use Rattle.protocol.proofs.Seeks.{seek_from, seek_to, seek_found, seek_before, update_same, update_other}
 use Rattle.std.proofs.lemmas.List.{get_or_append_left, length_push}
 use Rattle.std.proofs.lemmas.Bool.{both_ways, cases_eq, cases_lt, cond-true, cond-false, eqb-true, eqb-false, leb-false, le-leb, lt-leb, lt-ltb, le-ltb, not-true, not-false, or_parts, or_from, or_left}
 
 -- what a sound far end is but for its timer. In a step it may not yet be known that the counts outside of `Known`
 -- are not complete.
 pub record CountsSound (Known : ℕ → Type 0) (acc : List Bytes) (next highest status : ℕ) (sdus : ℕ → far.Partial) : Type 0 where
-  pub status-from : next ≤ status
+  pub status_from : next ≤ status
   pub status_to : status ≤ highest
   pub window : highest ≤ next + 16
   pub seen : highest ≤ length acc
   pub below : (x : ℕ) → x < next → sdus x ≡ far.complete_sdu
   pub lowest : Known next → far.complete (sdus next) ≡ false
-  pub at-status : Known status → far.complete (sdus status) ≡ false
+  pub at_status : Known status → far.complete (sdus status) ≡ false
   pub beyond : (x : ℕ) → highest ≤ x → sdus x ≡ far.nothing_held
   pub true_sdus : (x : ℕ) → next ≤ x → x < highest → PartialSound (sdu acc x) (sdus x)
 
@@ -38,13 +38,13 @@ SoundCounts = Between (λ x. Unit {0})
 counts_of : {acc : List Bytes} {f : far.Far} → FarSound acc f → SoundCounts acc f
 counts_of h =
     record {
-      status-from = h.status-from;
+      status_from = h.status_from;
       status_to = h.status_to;
       window = h.window;
       seen = h.seen;
       below = h.below;
       lowest = λ k. h.lowest;
-      at-status = λ k. h.status;
+      at_status = λ k. h.status;
       beyond = h.beyond;
       true_sdus = h.true_sdus;
     }
@@ -57,13 +57,13 @@ TriggerSound f =
 sound_of : {acc : List Bytes} {f : far.Far} → SoundCounts acc f → TriggerSound f → FarSound acc f
 sound_of h trigger =
     record {
-      status-from = h.status-from;
+      status_from = h.status_from;
       status_to = h.status_to;
       window = h.window;
       seen = h.seen;
       below = h.below;
       lowest = h.lowest tt;
-      status = h.at-status tt;
+      status = h.at_status tt;
       beyond = h.beyond;
       trigger = trigger;
       true_sdus = h.true_sdus;
@@ -74,7 +74,7 @@ sound_of h trigger =
 pub far_new : FarSound [] far.new_far
 far_new =
     record {
-      status-from = omega arith;
+      status_from = omega arith;
       status_to = omega arith;
       window = omega arith;
       seen = omega arith;
@@ -87,27 +87,27 @@ far_new =
     }
 
 -- a packet more changes no earlier SDU
-pub sdu-given : (acc : List Bytes) (p : Bytes) (x : ℕ) → x < length acc → sdu (acc ++ p ∷ []) x ≡ sdu acc x
-sdu-given acc p x l = ap (encode_pdcp (x % sn_modulus)) (get_or_append_left acc (p ∷ []) [] x l)
+pub sdu_given : (acc : List Bytes) (p : Bytes) (x : ℕ) → x < length acc → sdu (acc ++ p ∷ []) x ≡ sdu acc x
+sdu_given acc p x l = ap (encode_pdcp (x % sn_modulus)) (get_or_append_left acc (p ∷ []) [] x l)
 
 pub far_given : (acc : List Bytes) (p : Bytes) (f : far.Far) → FarSound acc f → FarSound (acc ++ p ∷ []) f
 far_given acc p f h =
     sound_of
     (record {
-      status-from = h.status-from;
+      status_from = h.status_from;
       status_to = h.status_to;
       window = h.window;
       seen = omega (arith, h.seen, length_push acc p);
       below = h.below;
       lowest = λ k. h.lowest;
-      at-status = λ k. h.status;
+      at_status = λ k. h.status;
       beyond = h.beyond;
-      true_sdus = λ x lo hi. subst (λ bytes. PartialSound bytes (f.sdu x)) (sym (sdu-given acc p x (omega (arith, hi, h.seen)))) (h.true_sdus x lo hi);
+      true_sdus = λ x lo hi. subst (λ bytes. PartialSound bytes (f.sdu x)) (sym (sdu_given acc p x (omega (arith, hi, h.seen)))) (h.true_sdus x lo hi);
     })
     h.trigger
 
-pub sdu-short : (acc : List Bytes) (x : ℕ) → Packets acc → x < length acc → length (sdu acc x) ≤ 502
-sdu-short acc x packets l = omega (arith, (packets.short x l).1)
+pub sdu_short : (acc : List Bytes) (x : ℕ) → Packets acc → x < length acc → length (sdu acc x) ≤ 502
+sdu_short acc x packets l = omega (arith, (packets.short x l).1)
 
 -- what is held from RX_Next on is true, in what was not seen too
 pub true_sdu : (acc : List Bytes) (f : far.Far) → FarSound acc f → (x : ℕ) → f.rx_next ≤ x → PartialSound (sdu acc x) (f.sdu x)
@@ -133,11 +133,11 @@ lands_from : (f : far.Far) (x : ℕ) → ((y : ℕ) → f.rx_next_highest ≤ y 
     → Lands f x (far.incomplete_from f x)
 lands_from f x beyond l =
     record {
-      grows = seek-from test n x;
+      grows = seek_from test n x;
       stays = to;
       incomplete = ⊎_elim (λ h. not-true _ (seek_found test n x (omega (arith, h, l)))) (unseen_open f beyond (far.incomplete_from f x))
           (cases_lt (far.incomplete_from f x) f.rx_next_highest);
-      between = λ y lo hi. not-false _ (seek-before test n x y lo hi);
+      between = λ y lo hi. not-false _ (seek_before test n x y lo hi);
     }
   where
     test : ℕ → Bool
@@ -166,17 +166,17 @@ moved_lands x f v beyond lx lv incomplete = go (far.complete (f.sdu x)) refl (eq
     go false d false s = here (incomplete (eqb-false v x s))
 
 -- 1: the new bytes are true ones. Count x may be complete now.
-kept-counts : (acc : List Bytes) (f : far.Far) (x : ℕ) (a : Amd) → FarSound acc f → f.rx_next ≤ x → x < f.rx_next + 16
+kept_counts : (acc : List Bytes) (f : far.Far) (x : ℕ) (a : Amd) → FarSound acc f → f.rx_next ≤ x → x < f.rx_next + 16
     → x < length acc → PartialSound (sdu acc x) (far.received a (f.sdu x)) → Between (λ y. y ≡ x → ⊥) acc (far.kept x a f)
-kept-counts acc f x a h lo hi l new =
+kept_counts acc f x a h lo hi l new =
     record {
-      status-from = h.status-from;
+      status_from = h.status_from;
       status_to = omega (arith, h.status_to);
       window = omega (arith, h.window, hi);
       seen = omega (arith, h.seen, l);
       below = λ y b. update_other f.sdu x _ y (λ e. omega (arith, b, e, lo)) ∙ h.below y b;
       lowest = λ d. ap far.complete (update_other f.sdu x _ f.rx_next d) ∙ h.lowest;
-      at-status = λ d. ap far.complete (update_other f.sdu x _ f.rx_highest_status d) ∙ h.status;
+      at_status = λ d. ap far.complete (update_other f.sdu x _ f.rx_highest_status d) ∙ h.status;
       beyond = λ y b.
           update_other f.sdu x _ y (λ e. omega (arith, b, e))
           ∙ h.beyond y (omega (arith, b));
@@ -195,14 +195,14 @@ kept-counts acc f x a h lo hi l new =
 -- 2: RX_Next and RX_Highest_Status are past what is complete
 module _ (acc : List Bytes) (f : far.Far) (x : ℕ) (h : Between (λ y. y ≡ x → ⊥) acc f) (to : x < f.rx_next_highest) where
   next_lands : Lands f f.rx_next (far.advanced x f).rx_next
-  next_lands = moved_lands x f f.rx_next h.beyond (omega (arith, to)) (omega (arith, h.status-from, h.status_to)) h.lowest
+  next_lands = moved_lands x f f.rx_next h.beyond (omega (arith, to)) (omega (arith, h.status_from, h.status_to)) h.lowest
 
   status_lands : Lands f f.rx_highest_status (far.advanced x f).rx_highest_status
-  status_lands = moved_lands x f f.rx_highest_status h.beyond (omega (arith, to)) h.status_to h.at-status
+  status_lands = moved_lands x f f.rx_highest_status h.beyond (omega (arith, to)) h.status_to h.at_status
 
   -- what stands below the new RX_Next was complete
-  advanced-complete : (y : ℕ) → far.complete ((far.advanced x f).sdu y) ≡ far.complete (f.sdu y)
-  advanced-complete y = ⊎_elim passed (λ l. ap far.complete (cond-false _ _ _ (le-ltb y _ l))) (cases_lt y (far.advanced x f).rx_next)
+  advanced_complete : (y : ℕ) → far.complete ((far.advanced x f).sdu y) ≡ far.complete (f.sdu y)
+  advanced_complete y = ⊎_elim passed (λ l. ap far.complete (cond-false _ _ _ (le-ltb y _ l))) (cases_lt y (far.advanced x f).rx_next)
     where
       old : y < (far.advanced x f).rx_next → (y < f.rx_next) ⊎ (f.rx_next ≤ y) → far.complete (f.sdu y) ≡ true
       old l (inl b) = ap far.complete (h.below y b)
@@ -220,18 +220,18 @@ module _ (acc : List Bytes) (f : far.Far) (x : ℕ) (h : Between (λ y. y ≡ x 
       not_before : (far.advanced x f).rx_highest_status < (far.advanced x f).rx_next → ⊥
       not_before l =
           both_ways _ status_lands.incomplete
-          (next_lands.between (far.advanced x f).rx_highest_status (omega (arith, h.status-from, status_lands.grows)) l)
+          (next_lands.between (far.advanced x f).rx_highest_status (omega (arith, h.status_from, status_lands.grows)) l)
 
-  advanced-counts : SoundCounts acc (far.advanced x f)
-  advanced-counts =
+  advanced_counts : SoundCounts acc (far.advanced x f)
+  advanced_counts =
       record {
-        status-from = in_order;
+        status_from = in_order;
         status_to = status_lands.stays;
         window = omega (arith, h.window, next_lands.grows);
         seen = h.seen;
         below = λ y l. cond-true _ _ _ (lt-ltb y _ l);
         lowest = λ k. ap far.complete (still _ (omega arith)) ∙ next_lands.incomplete;
-        at-status = λ k. ap far.complete (still _ in_order) ∙ status_lands.incomplete;
+        at_status = λ k. ap far.complete (still _ in_order) ∙ status_lands.incomplete;
         beyond = λ y l. still y (omega (arith, l, next_lands.stays)) ∙ h.beyond y l;
         true_sdus = λ y lo hi.
             subst (PartialSound (sdu acc y)) (sym (still y lo)) (h.true_sdus y (omega (arith, lo, next_lands.grows)) hi);
@@ -254,9 +254,9 @@ reassembled_sound acc f h trigger = sound_of h (λ r. go _ refl r)
 
 -- A change of timers and polls alone: the counts that matter and the SDUs are as they were.
 pub record SameSdus (f g : far.Far) : Type 0 where
-  pub next-same : g.rx_next ≡ f.rx_next
+  pub next_same : g.rx_next ≡ f.rx_next
   pub highest_same : g.rx_next_highest ≡ f.rx_next_highest
-  pub sdus-same : (y : ℕ) → g.sdu y ≡ f.sdu y
+  pub sdus_same : (y : ℕ) → g.sdu y ≡ f.sdu y
 
 -- 4
 awaited_sound : (s : Settings) (low : ℕ) (acc : List Bytes) (f : far.Far) → FarSound acc f
@@ -269,10 +269,10 @@ awaited_sound s low acc f h =
 
     go : (starts : Bool) → FarSound acc (cond starts waiting f) × SameSdus f (cond starts waiting f)
     go true = (
-      sound_of (counts_of h) (λ r. (omega (arith, h.status-from, h.status_to), omega arith)),
-      record { next-same = refl; highest_same = refl; sdus-same = λ y. refl },
+      sound_of (counts_of h) (λ r. (omega (arith, h.status_from, h.status_to), omega arith)),
+      record { next_same = refl; highest_same = refl; sdus_same = λ y. refl },
     )
-    go false = (h, record { next-same = refl; highest_same = refl; sdus-same = λ y. refl })
+    go false = (h, record { next_same = refl; highest_same = refl; sdus_same = λ y. refl })
 
 -- 5
 answering_sound : (low : ℕ) (acc : List Bytes) (f : far.Far) → FarSound acc f → FarSound acc (far.answering low f)
@@ -299,12 +299,12 @@ pub far_taken : (s : Settings) (acc : List Bytes) (f : far.Far) (x : ℕ) (a : A
 far_taken s acc f x a h lo kept_on l part =
     record {
       sound = answering_sound f.rx_next acc waits later.0;
-      next_grows = omega (arith, (next_lands acc g x mid to).grows, later.1.next-same);
+      next_grows = omega (arith, (next_lands acc g x mid to).grows, later.1.next_same);
       highest_is = later.1.highest_same;
       was_incomplete = not_complete;
       completes = λ y c. changed y ∙ stays y c (cases_eq y x);
       no_other = λ y c. which y (sym (changed y) ∙ c) (cases_eq y x);
-      completed = λ c. (changed x ∙ ap far.complete (update_same f.sdu x _) ∙ c, complete-bytes (sdu acc x) (far.received a (f.sdu x)) new c);
+      completed = λ c. (changed x ∙ ap far.complete (update_same f.sdu x _) ∙ c, complete_bytes (sdu acc x) (far.received a (f.sdu x)) new c);
     }
   where
     tests : (leb (f.rx_next + 16) x ≡ false)
@@ -319,7 +319,7 @@ far_taken s acc f x a h lo kept_on l part =
       where
         go : (b : Bool) → far.complete (f.sdu x) ≡ b → b ≡ false
         go false e = refl
-        go true e = absurd (both_ways _ tests.1 (complete-discards (sdu acc x) x a (f.sdu x) was part e))
+        go true e = absurd (both_ways _ tests.1 (complete_discards (sdu acc x) x a (f.sdu x) was part e))
 
     new : PartialSound (sdu acc x) (far.received a (f.sdu x))
     new = received_sound (sdu acc x) x a (f.sdu x) was part
@@ -328,7 +328,7 @@ far_taken s acc f x a h lo kept_on l part =
     g = far.kept x a f
 
     mid : Between (λ y. y ≡ x → ⊥) acc g
-    mid = kept-counts acc f x a h lo (leb-false _ _ tests.0) l new
+    mid = kept_counts acc f x a h lo (leb-false _ _ tests.0) l new
 
     to : x < g.rx_next_highest
     to = omega (arith)
@@ -338,7 +338,7 @@ far_taken s acc f x a h lo kept_on l part =
 
     stopped_there : FarSound acc (far.reassembled moved)
     stopped_there =
-        reassembled_sound acc moved (advanced-counts acc g x mid to)
+        reassembled_sound acc moved (advanced_counts acc g x mid to)
         (λ r. omega (arith, (h.trigger r).1))
 
     waits : far.Far
@@ -348,7 +348,7 @@ far_taken s acc f x a h lo kept_on l part =
     later = awaited_sound s moved.rx_next acc (far.reassembled moved) stopped_there
 
     changed : (y : ℕ) → far.complete (waits.sdu y) ≡ far.complete (g.sdu y)
-    changed y = ap far.complete (later.1.sdus-same y) ∙ advanced-complete acc g x mid to y
+    changed y = ap far.complete (later.1.sdus_same y) ∙ advanced_complete acc g x mid to y
 
     stays : (y : ℕ) → far.complete (f.sdu y) ≡ true → (y ≡ x) ⊎ (y ≡ x → ⊥) → far.complete (g.sdu y) ≡ true
     stays y c (inl e) = absurd (both_ways _ not_complete (sym (ap (λ z. far.complete (f.sdu z)) e) ∙ c))
@@ -397,7 +397,7 @@ far_arrives s acc f y a packets h l part near to =
     in_window lo false e =
         inr (
           refl,
-          or_from _ _ (part_fits (sdu acc y) y a (f.sdu y) (sdu-short acc y packets l) (true_sdu acc f h y lo) part)
+          or_from _ _ (part_fits (sdu acc y) y a (f.sdu y) (sdu_short acc y packets l) (true_sdu acc f h y lo) part)
               (lt-leb packet_limit y (omega (arith, l, packets.few))),
           far_taken s acc f y a h lo e l part,
         )
@@ -410,22 +410,22 @@ far_reported s acc f h = sound_of (counts_of h) h.trigger
 
 -- a Tick -------------------------------------------------------------------------------------------------------------
 
-runs-from-out : (t : Timer) → runs_out t ≡ true → runs t ≡ true
-runs-from-out stopped e = e
-runs-from-out (running left) e = refl
-runs-from-out endless e = refl
+runs_from_out : (t : Timer) → runs_out t ≡ true → runs t ≡ true
+runs_from_out stopped e = e
+runs_from_out (running left) e = refl
+runs_from_out endless e = refl
 
-runs-before : (t : Timer) → runs (ticked t) ≡ true → runs t ≡ true
-runs-before stopped e = e
-runs-before (running left) e = refl
-runs-before endless e = refl
+runs_before : (t : Timer) → runs (ticked t) ≡ true → runs t ≡ true
+runs_before stopped e = e
+runs_before (running left) e = refl
+runs_before endless e = refl
 
 -- the search for RX_Highest_Status begins at the trigger, which lies in what was seen of the window
 given_up_sound : (s : Settings) (acc : List Bytes) (f : far.Far) → FarSound acc f → runs f.t_reassembly ≡ true
     → FarSound acc (far.given_up s f) × SameSdus f (far.given_up s f)
 given_up_sound s acc f h r = (
   reporting_sound acc (far.answering f.rx_next (later_state)) _ (answering_sound f.rx_next acc later_state later.0),
-  record { next-same = later.1.next-same; highest_same = later.1.highest_same; sdus-same = later.1.sdus-same },
+  record { next_same = later.1.next_same; highest_same = later.1.highest_same; sdus_same = later.1.sdus_same },
 )
   where
     place : Lands f f.rx_next_status_trigger (far.incomplete_from f f.rx_next_status_trigger)
@@ -438,13 +438,13 @@ given_up_sound s acc f h r = (
     given =
         sound_of
         (record {
-          status-from = omega (arith, (h.trigger r).0, place.grows);
+          status_from = omega (arith, (h.trigger r).0, place.grows);
           status_to = place.stays;
           window = h.window;
           seen = h.seen;
           below = h.below;
           lowest = λ k. h.lowest;
-          at-status = λ k. place.incomplete;
+          at_status = λ k. place.incomplete;
           beyond = h.beyond;
           true_sdus = h.true_sdus;
         })
@@ -463,14 +463,14 @@ far_ticked s acc f h = after (far.tick_reassembly s f) (go (runs_out f.t_reassem
     go : (out : Bool) → runs_out f.t_reassembly ≡ out
         → let g = cond out (far.given_up s f) (far.with_reassembly f f.rx_next_status_trigger (ticked f.t_reassembly)) in
         FarSound acc g × SameSdus f g
-    go true e = given_up_sound s acc f h (runs-from-out f.t_reassembly e)
+    go true e = given_up_sound s acc f h (runs_from_out f.t_reassembly e)
     go false e = (
-      sound_of (counts_of h) (λ r. h.trigger (runs-before f.t_reassembly r)),
-      record { next-same = refl; highest_same = refl; sdus-same = λ y. refl },
+      sound_of (counts_of h) (λ r. h.trigger (runs_before f.t_reassembly r)),
+      record { next_same = refl; highest_same = refl; sdus_same = λ y. refl },
     )
 
     after : (g : far.Far) → FarSound acc g × SameSdus f g → FarSound acc (far.tick_prohibit g) × SameSdus f (far.tick_prohibit g)
     after g k = (
       sound_of (counts_of k.0) k.0.trigger,
-      record { next-same = k.1.next-same; highest_same = k.1.highest_same; sdus-same = k.1.sdus-same },
+      record { next_same = k.1.next_same; highest_same = k.1.highest_same; sdus_same = k.1.sdus_same },
     )

@@ -57,7 +57,7 @@ pub record PartialSound (bytes : Bytes) (p : far.Partial) : Type 0 where
   pub end : (n : ℕ) → p.known_end ≡ Some n → n ≡ length bytes
 
 pub record FarSound (acc : List Bytes) (f : far.Far) : Type 0 where
-  pub status-from : f.rx_next ≤ f.rx_highest_status
+  pub status_from : f.rx_next ≤ f.rx_highest_status
   pub status_to : f.rx_highest_status ≤ f.rx_next_highest
   pub window : f.rx_next_highest ≤ f.rx_next + 16
   pub seen : f.rx_next_highest ≤ length acc

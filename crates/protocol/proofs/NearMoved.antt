@@ -2,8 +2,8 @@
 use Rattle.std.proofs.Common.{◌≡◌, ℕ, ◌-◌, ◌<◌, ◌≤◌, Bool, true, false, cond, not, ◌&&◌, eqb, ltb, ◌⊎◌, List, length, Some, None, Option, sym, refl, ap, ◌∙◌, subst, inl, inr, ⊎_elim, arith}
 use Rattle.protocol.proofs.Invariants.{NearSound}
 use Rattle.protocol.proofs.Marks.{has_same, begun, begun_same, top_from, top_begun, top_is}
-use Rattle.protocol.proofs.NearKept.{above-top, top_not_begun, unbegun_unsent}
-use Rattle.protocol.proofs.Seeks.{seek-from, seek_to, seek_found, seek-before, update_other}
+use Rattle.protocol.proofs.NearKept.{above_top, top_not_begun, unbegun_unsent}
+use Rattle.protocol.proofs.Seeks.{seek_from, seek_to, seek_found, seek_before, update_other}
 use Rattle.protocol.specs.Bytes.{Bytes}
 use Rattle.protocol.specs.Pdus.{Entry}
 use Rattle.protocol.specs.Searching.{seek, update}
@@ -12,10 +12,10 @@ use Rattle.protocol.specs.Settings.{Settings}
 use Rattle.protocol.specs.Timers.{runs_out}
 use Rattle.std.proofs.lemmas.Bool.{and_left, and_parts, both_ways, cases_lt, cond-true, cond-false, eqb-true, false≢true, le-ltb, lt-ltb, ltb-true, not-false, not-true}
 
-unsent-mark : (m : near.Mark) → near.is_unsent m ≡ true → m ≡ near.unsent
-unsent-mark near.unsent e = refl
-unsent-mark near.sent e = absurd (false≢true e)
-unsent-mark near.pending e = absurd (false≢true e)
+unsent_mark : (m : near.Mark) → near.is_unsent m ≡ true → m ≡ near.unsent
+unsent_mark near.unsent e = refl
+unsent_mark near.sent e = absurd (false≢true e)
+unsent_mark near.pending e = absurd (false≢true e)
 
 -- m is n with its window moved on; of the SDUs that are not below it the same bytes are unsent
 record Moved (n m : near.Near) : Type 0 where
@@ -38,8 +38,8 @@ module _ (acc : List Bytes) (n m : near.Near) (sound : NearSound acc n) (moved :
   moved_begun : (x : ℕ) → m.tx_next_ack ≤ x → begun (m.sdu x) ≡ begun (n.sdu x)
   moved_begun x lo = begun_same (m.sdu x) (n.sdu x) (moved.bytes x lo) (λ i. moved.unsent x i lo)
 
-  moved-top : near.top m ≡ near.top n
-  moved-top =
+  moved_top : near.top m ≡ near.top n
+  moved_top =
       top_is m (near.top n) first_to_top (omega (arith, sound.begun, sound.window, moved.first_grows))
       (λ x lo hi. moved_begun x lo ∙ top_begun n x (omega (arith, lo, moved.first_grows)) hi)
       (moved_begun (near.top n) first_to_top ∙ top_not_begun acc n sound)
@@ -50,15 +50,15 @@ module _ (acc : List Bytes) (n m : near.Near) (sound : NearSound acc n) (moved :
         packets = sound.packets;
         counts = moved.same_count ∙ sound.counts;
         next = moved.same_next ∙ sound.next;
-        begun = omega (arith, moved-top, sound.begun, moved.same_next);
+        begun = omega (arith, moved_top, sound.begun, moved.same_next);
         window = omega (arith, moved.same_next, sound.window, moved.first_grows);
         below = moved.below;
         lowest = λ l. moved.lowest (omega (arith, l, moved.same_next));
         beyond = λ x l. let h : n.tx_next ≤ x = omega (arith, l, moved.same_next) in moved.beyond x h ∙ sound.beyond x h;
         bytes = λ x lo hi. moved.bytes x lo ∙ sound.bytes x (omega (arith, lo, moved.first_grows)) (omega (arith, hi, moved.same_next));
-        unbegun = λ x i lo hi. let h : near.top n ≤ x = omega (arith, lo, moved-top) in
-            unsent-mark ((m.sdu x).mark i) (moved.unsent x i (omega (arith, h, first_to_top)) ∙ ap near.is_unsent (above-top acc n sound x i h));
-        acknowledged = λ x e. omega (arith, moved-top, moved.acknowledged x e);
+        unbegun = λ x i lo hi. let h : near.top n ≤ x = omega (arith, lo, moved_top) in
+            unsent_mark ((m.sdu x).mark i) (moved.unsent x i (omega (arith, h, first_to_top)) ∙ ap near.is_unsent (above_top acc n sound x i h));
+        acknowledged = λ x e. omega (arith, moved_top, moved.acknowledged x e);
       }
 
 -- considering and acknowledging leave the unsent bytes -----------------------------------------------------------------
@@ -67,25 +67,25 @@ record SameUnsent (t s : near.Sdu) : Type 0 where
   bytes : t.bytes ≡ s.bytes
   unsent : (i : ℕ) → near.is_unsent (t.mark i) ≡ near.is_unsent (s.mark i)
 
-repend-unsent : (b : Bool) (m : near.Mark) → near.is_unsent (near.repend b m) ≡ near.is_unsent m
-repend-unsent b near.unsent = refl
-repend-unsent true near.sent = refl
-repend-unsent false near.sent = refl
-repend-unsent b near.pending = refl
+repend_unsent : (b : Bool) (m : near.Mark) → near.is_unsent (near.repend b m) ≡ near.is_unsent m
+repend_unsent b near.unsent = refl
+repend_unsent true near.sent = refl
+repend_unsent false near.sent = refl
+repend_unsent b near.pending = refl
 
-settled-unsent : (m : near.Mark) → near.is_unsent (cond (near.is_pending m) near.sent m) ≡ near.is_unsent m
-settled-unsent near.unsent = refl
-settled-unsent near.sent = refl
-settled-unsent near.pending = refl
+settled_unsent : (m : near.Mark) → near.is_unsent (cond (near.is_pending m) near.sent m) ≡ near.is_unsent m
+settled_unsent near.unsent = refl
+settled_unsent near.sent = refl
+settled_unsent near.pending = refl
 
 considered_if : (b : Bool) (named : ℕ → Bool) (s : near.Sdu)
     → SameUnsent (cond b (near.considered named s) s) s × ((cond b (near.considered named s) s).acknowledged ≡ s.acknowledged)
-considered_if true named s = (record { bytes = refl; unsent = λ i. repend-unsent (named i) (s.mark i) }, refl)
+considered_if true named s = (record { bytes = refl; unsent = λ i. repend_unsent (named i) (s.mark i) }, refl)
 considered_if false named s = (record { bytes = refl; unsent = λ i. refl }, refl)
 
-considered-at : (named : ℕ → Bool) (f : ℕ → near.Sdu) (y x : ℕ)
+considered_at : (named : ℕ → Bool) (f : ℕ → near.Sdu) (y x : ℕ)
     → let g = update f y (near.considered named (f y)) in SameUnsent (g x) (f x) × ((g x).acknowledged ≡ (f x).acknowledged)
-considered-at named f y x = go (eqb x y) refl
+considered_at named f y x = go (eqb x y) refl
   where
     go : (b : Bool) → eqb x y ≡ b
         → let t = cond b (near.considered named (f y)) (f x) in SameUnsent t (f x) × (t.acknowledged ≡ (f x).acknowledged)
@@ -97,7 +97,7 @@ considered-at named f y x = go (eqb x y) refl
 acknowledge_if : (b : Bool) (s : near.Sdu)
     → SameUnsent (cond b (near.acknowledge s) s) s × ((cond b (near.acknowledge s) s).acknowledged ≡ true → (s.acknowledged ≡ true) ⊎ (b ≡ true))
     × (s.acknowledged ≡ true → (cond b (near.acknowledge s) s).acknowledged ≡ true)
-acknowledge_if true s = (record { bytes = refl; unsent = λ i. settled-unsent (s.mark i) }, λ e. inr refl, λ e. refl)
+acknowledge_if true s = (record { bytes = refl; unsent = λ i. settled_unsent (s.mark i) }, λ e. inr refl, λ e. refl)
 acknowledge_if false s = (record { bytes = refl; unsent = λ i. refl }, λ e. inl e, λ e. e)
 
 -- reading a status report ---------------------------------------------------------------------------------------------
@@ -106,7 +106,7 @@ pub record ReportedKept (s : Settings) (acc : List Bytes) (n : near.Near) (ack :
   pub sound : NearSound acc (near.reported s ack es n)
   pub same_next : (near.reported s ack es n).tx_next ≡ n.tx_next
   pub first_grows : n.tx_next_ack ≤ (near.reported s ack es n).tx_next_ack
-  pub same-top : near.top (near.reported s ack es n) ≡ near.top n
+  pub same_top : near.top (near.reported s ack es n) ≡ near.top n
   pub was_reported : (x : ℕ) → ((near.reported s ack es n).sdu x).acknowledged ≡ true
       → ((n.sdu x).acknowledged ≡ true) ⊎ ((x < ack) × (near.named n es x ≡ false))
   pub stays : (x : ℕ) → (n.sdu x).acknowledged ≡ true → ((near.reported s ack es n).sdu x).acknowledged ≡ true
@@ -125,23 +125,23 @@ module _ (s : Settings) (acc : List Bytes) (n : near.Near) (ack : ℕ) (es : Lis
   abbrev to : ℕ
   to = seek (λ x. not (read x).acknowledged) (n.tx_next - n.tx_next_ack) n.tx_next_ack
 
-  considered-same : (x : ℕ) → SameUnsent (near.considered_in n es x) (n.sdu x)
-  considered-same x = (considered_if (consider x) (near.named_byte n es x) (n.sdu x)).0
+  considered_same : (x : ℕ) → SameUnsent (near.considered_in n es x) (n.sdu x)
+  considered_same x = (considered_if (consider x) (near.named_byte n es x) (n.sdu x)).0
 
-  read-bytes : (x : ℕ) → (read x).bytes ≡ (n.sdu x).bytes
-  read-bytes x = (acknowledge_if (settles x) (near.considered_in n es x)).0.bytes ∙ (considered-same x).bytes
+  read_bytes : (x : ℕ) → (read x).bytes ≡ (n.sdu x).bytes
+  read_bytes x = (acknowledge_if (settles x) (near.considered_in n es x)).0.bytes ∙ (considered_same x).bytes
 
-  read-unsent : (x i : ℕ) → near.is_unsent ((read x).mark i) ≡ near.is_unsent ((n.sdu x).mark i)
-  read-unsent x i = (acknowledge_if (settles x) (near.considered_in n es x)).0.unsent i ∙ (considered-same x).unsent i
+  read_unsent : (x i : ℕ) → near.is_unsent ((read x).mark i) ≡ near.is_unsent ((n.sdu x).mark i)
+  read_unsent x i = (acknowledge_if (settles x) (near.considered_in n es x)).0.unsent i ∙ (considered_same x).unsent i
 
   read_stays : (x : ℕ) → (n.sdu x).acknowledged ≡ true → (read x).acknowledged ≡ true
   read_stays x e =
       (acknowledge_if (settles x) (near.considered_in n es x)).2 ((considered_if (consider x) (near.named_byte n es x) (n.sdu x)).1 ∙ e)
 
   -- what is newly acknowledged: all of it was sent
-  read-new : (x : ℕ) → (read x).acknowledged ≡ true
+  read_new : (x : ℕ) → (read x).acknowledged ≡ true
       → ((n.sdu x).acknowledged ≡ true) ⊎ ((x < ack) × (near.named n es x ≡ false) × (near.has near.is_unsent (n.sdu x) ≡ false))
-  read-new x e =
+  read_new x e =
       ⊎_elim (λ k. inl (sym (considered_if (consider x) (near.named_byte n es x) (n.sdu x)).1 ∙ k)) (λ k. inr (parts k))
       ((acknowledge_if (settles x) (near.considered_in n es x)).1 e)
     where
@@ -151,14 +151,14 @@ module _ (s : Settings) (acc : List Bytes) (n : near.Near) (ack : ℕ) (es : Lis
           let b = and_parts (not (near.named n es x)) _ a.1 in (
             ltb-true _ _ a.0,
             not-true _ b.0,
-            sym (has_same near.is_unsent (near.considered_in n es x) (n.sdu x) (ap length (considered-same x).bytes) (considered-same x).unsent) ∙ not-true _ b.1,
+            sym (has_same near.is_unsent (near.considered_in n es x) (n.sdu x) (ap length (considered_same x).bytes) (considered_same x).unsent) ∙ not-true _ b.1,
           )
 
   read_begun : (x : ℕ) → (read x).acknowledged ≡ true → x < near.top n
   read_begun x e =
       ⊎_elim (λ k. sound.acknowledged x k)
       (λ k. ⊎_elim (λ l. l) (λ l. absurd (both_ways _ k.2 (unbegun_unsent acc n sound x l (omega (arith, k.0, recent))))) (cases_lt x (near.top n)))
-      (read-new x e)
+      (read_new x e)
 
   read_beyond : (x : ℕ) → n.tx_next ≤ x → read x ≡ n.sdu x
   read_beyond x l =
@@ -173,38 +173,38 @@ module _ (s : Settings) (acc : List Bytes) (n : near.Near) (ack : ℕ) (es : Lis
   moved_past x l = cond-false _ _ _ (le-ltb x to l)
 
   -- what the window passes over was acknowledged
-  moved-acknowledged : (x : ℕ) → ((near.reported s ack es n).sdu x).acknowledged ≡ true → ((n.sdu x).acknowledged ≡ true) ⊎ ((read x).acknowledged ≡ true)
-  moved-acknowledged x e = go (cases_lt x to) (cases_lt x n.tx_next_ack)
+  moved_acknowledged : (x : ℕ) → ((near.reported s ack es n).sdu x).acknowledged ≡ true → ((n.sdu x).acknowledged ≡ true) ⊎ ((read x).acknowledged ≡ true)
+  moved_acknowledged x e = go (cases_lt x to) (cases_lt x n.tx_next_ack)
     where
       go : (x < to) ⊎ (to ≤ x) → (x < n.tx_next_ack) ⊎ (n.tx_next_ack ≤ x) → ((n.sdu x).acknowledged ≡ true) ⊎ ((read x).acknowledged ≡ true)
       go (inr l) k = inr (ap (λ t. t.acknowledged) (sym (moved_past x l)) ∙ e)
       go (inl l) (inl k) = inl (ap (λ t. t.acknowledged) (sound.below x k))
-      go (inl l) (inr k) = inr (not-false _ (seek-before (λ x. not (read x).acknowledged) (n.tx_next - n.tx_next_ack) n.tx_next_ack x k l))
+      go (inl l) (inr k) = inr (not-false _ (seek_before (λ x. not (read x).acknowledged) (n.tx_next - n.tx_next_ack) n.tx_next_ack x k l))
 
-  reported-moved : Moved n (near.reported s ack es n)
-  reported-moved =
+  reported_moved : Moved n (near.reported s ack es n)
+  reported_moved =
       record {
         same_count = refl;
         same_next = refl;
-        first_grows = seek-from (λ x. not (read x).acknowledged) (n.tx_next - n.tx_next_ack) n.tx_next_ack;
+        first_grows = seek_from (λ x. not (read x).acknowledged) (n.tx_next - n.tx_next_ack) n.tx_next_ack;
         below = λ x l. cond-true _ _ _ (lt-ltb x to l);
         lowest = λ l. ap (λ t. t.acknowledged) (moved_past to (omega arith)) ∙ not-true _ (seek_found (λ x. not (read x).acknowledged) (n.tx_next - n.tx_next_ack) n.tx_next_ack (omega (arith, l, top_from n, sound.begun)));
         beyond = λ x l. moved_past x (omega (arith, l, first_to_next)) ∙ read_beyond x l;
-        bytes = λ x l. ap (λ t. t.bytes) (moved_past x l) ∙ read-bytes x;
-        unsent = λ x i l. ap (λ t. near.is_unsent (t.mark i)) (moved_past x l) ∙ read-unsent x i;
-        acknowledged = λ x e. ⊎_elim (sound.acknowledged x) (read_begun x) (moved-acknowledged x e);
+        bytes = λ x l. ap (λ t. t.bytes) (moved_past x l) ∙ read_bytes x;
+        unsent = λ x i l. ap (λ t. near.is_unsent (t.mark i)) (moved_past x l) ∙ read_unsent x i;
+        acknowledged = λ x e. ⊎_elim (sound.acknowledged x) (read_begun x) (moved_acknowledged x e);
       }
 
   -- a report that is not stale
   pub near_reported : ReportedKept s acc n ack es
   near_reported =
       record {
-        sound = moved_sound acc n (near.reported s ack es n) sound reported-moved;
+        sound = moved_sound acc n (near.reported s ack es n) sound reported_moved;
         same_next = refl;
-        first_grows = reported-moved.first_grows;
-        same-top = moved-top acc n (near.reported s ack es n) sound reported-moved;
-        was_reported = λ x e. ⊎_elim inl (λ k. ⊎_elim inl (λ p. inr (p.0, p.1)) (read-new x k)) (moved-acknowledged x e);
-        stays = λ x e. ⊎_elim (λ l. ap (λ t. t.acknowledged) (reported-moved.below x l)) (λ l. ap (λ t. t.acknowledged) (moved_past x l) ∙ read_stays x e) (cases_lt x to);
+        first_grows = reported_moved.first_grows;
+        same_top = moved_top acc n (near.reported s ack es n) sound reported_moved;
+        was_reported = λ x e. ⊎_elim inl (λ k. ⊎_elim inl (λ p. inr (p.0, p.1)) (read_new x k)) (moved_acknowledged x e);
+        stays = λ x e. ⊎_elim (λ l. ap (λ t. t.acknowledged) (reported_moved.below x l)) (λ l. ap (λ t. t.acknowledged) (moved_past x l) ∙ read_stays x e) (cases_lt x to);
       }
 
 -- a Tick --------------------------------------------------------------------------------------------------------------
@@ -212,10 +212,10 @@ module _ (s : Settings) (acc : List Bytes) (n : near.Near) (ack : ℕ) (es : Lis
 -- m is n but for marks and counters
 pub record TickedKept (acc : List Bytes) (n m : near.Near) : Type 0 where
   pub sound : NearSound acc m
-  pub same-top : near.top m ≡ near.top n
+  pub same_top : near.top m ≡ near.top n
   pub same_first : m.tx_next_ack ≡ n.tx_next_ack
   pub same_next : m.tx_next ≡ n.tx_next
-  pub same-acknowledged : (x : ℕ) → (m.sdu x).acknowledged ≡ (n.sdu x).acknowledged
+  pub same_acknowledged : (x : ℕ) → (m.sdu x).acknowledged ≡ (n.sdu x).acknowledged
 
 highest_in_window : (n : near.Near) (x : ℕ) → near.highest_sent n ≡ Some x → (n.tx_next_ack ≤ x) × (x < near.top n)
 highest_in_window n x = go (near.top n) n.tx_next_ack _ _ refl
@@ -247,10 +247,10 @@ module _ (s : Settings) (acc : List Bytes) (n : near.Near) (sound : NearSound ac
       } in
       record {
         sound = moved_sound acc n m sound moved;
-        same-top = moved-top acc n m sound moved;
+        same_top = moved_top acc n m sound moved;
         same_first = first;
         same_next = next;
-        same-acknowledged = λ x. (same x).1;
+        same_acknowledged = λ x. (same x).1;
       }
 
   polls_only : (p : near.Polling) → TickedKept acc n (near.with_polling n p)
@@ -262,7 +262,7 @@ module _ (s : Settings) (acc : List Bytes) (n : near.Near) (sound : NearSound ac
   considers (Some y) e =
       all_but_marks after refl refl refl
       (λ x l. update_other n.sdu y _ x (λ k. ⊎_elim (λ h. omega (arith, h, k, in_window)) (λ h. omega (arith, h, k, in_window, sound.begun)) l))
-      (λ x. considered-at (λ i. true) n.sdu y x)
+      (λ x. considered_at (λ i. true) n.sdu y x)
     where
       after : near.Near
       after = near.failed_if s (near.considered_all (Some y) (near.owing n))

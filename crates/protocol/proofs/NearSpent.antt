@@ -1,9 +1,9 @@
 -- A near end that spends a grant stays sound, and sends a true part of an SDU.
 use Rattle.std.proofs.Common.{◌≡◌, ℕ, ◌+◌, ◌-◌, ◌%◌, ◌<◌, ◌≤◌, min, Bool, true, false, cond, not, eqb, ltb, ◌⊎◌, List, length, take, drop, Some, None, sym, refl, ap, ◌∙◌, subst, inl, inr, ⊎_elim, arith, length-append, length-drop}
 use Rattle.protocol.proofs.Invariants.{sdu, PartOf, NearSound}
-use Rattle.protocol.proofs.Marks.{seek-past, has-found, has-at, begun, not_begun, top_from, top_begun, top_is}
-use Rattle.protocol.proofs.NearKept.{above-top, unbegun_unsent}
-use Rattle.protocol.proofs.Seeks.{seek-from, seek_to, seek_found, seek_least, update_other}
+use Rattle.protocol.proofs.Marks.{seek_past, has_found, has_at, begun, not_begun, top_from, top_begun, top_is}
+use Rattle.protocol.proofs.NearKept.{above_top, unbegun_unsent}
+use Rattle.protocol.proofs.Seeks.{seek_from, seek_to, seek_found, seek_least, update_other}
 use Rattle.protocol.specs.Bytes.{Bytes}
 use Rattle.protocol.specs.Numbers.{sn_modulus}
 use Rattle.protocol.specs.Pdus.{Amd, amd, so_field, encode}
@@ -16,8 +16,8 @@ use Rattle.std.proofs.lemmas.Bool.Decides.{nat_tests}
 
 -- the PDU of some bytes -----------------------------------------------------------------------------------------------
 
-pub segment-offset : (from size long : ℕ) → far.offset (near.segment_at from size long) ≡ from
-segment-offset from size long = grind (arith, nat_tests)
+pub segment_offset : (from size long : ℕ) → far.offset (near.segment_at from size long) ≡ from
+segment_offset from size long = grind (arith, nat_tests)
 
 segment_end : (from size long : ℕ) → far.marks_end (near.segment_at from size long) ≡ eqb (from + size) long
 segment_end from size long = grind (arith, nat_tests)
@@ -35,7 +35,7 @@ module _ (poll : Bool) (bytes : Bytes) (x from size : ℕ) (some : 1 ≤ size) (
   part_long = length-take-le size (drop from bytes) (omega (arith, inside, length-drop from bytes))
 
   part_end : far.data_end (pdu_of poll bytes x from size) ≡ from + size
-  part_end = omega (arith, part_long, segment-offset from size (length bytes))
+  part_end = omega (arith, part_long, segment_offset from size (length bytes))
 
   part_is : PartOf bytes x (pdu_of poll bytes x from size)
   part_is =
@@ -43,7 +43,7 @@ module _ (poll : Bool) (bytes : Bytes) (x from size : ℕ) (some : 1 ≤ size) (
         number = refl;
         some = omega (arith, some, part_long);
         inside = omega (arith, inside, part_end);
-        true_bytes = cc (part_long, segment-offset from size (length bytes));
+        true_bytes = cc (part_long, segment_offset from size (length bytes));
         at_end = λ e. part_end ∙ eqb-true (from + size) (length bytes) (sym (segment_end from size (length bytes)) ∙ e);
         not_at_end = λ e. let d = eqb-false (from + size) (length bytes) (sym (segment_end from size (length bytes)) ∙ e) in omega (arith, d, inside, part_end);
       }
@@ -69,11 +69,11 @@ pub run_lengths : (test : near.Mark → Bool) (s : near.Sdu) (g : ℕ) → near.
     (1 ≤ size) × (from + size ≤ length s.bytes) × (cond (eqb from 0) 2 4 + size ≤ g)
 run_lengths test s g h enough =
     over (near.byte_from test s 0) (near.byte_from (λ m. not (test m)) s (near.byte_from test s 0)) (length s.bytes) h'.0
-    (seek-past (λ j. not (test (s.mark j))) (length s.bytes - near.byte_from test s 0) (near.byte_from test s 0) (omega (arith, h'.0)) (not_from_true _ h'.1))
+    (seek_past (λ j. not (test (s.mark j))) (length s.bytes - near.byte_from test s 0) (near.byte_from test s 0) (omega (arith, h'.0)) (not_from_true _ h'.1))
     (seek_to (λ j. not (test (s.mark j))) (length s.bytes - near.byte_from test s 0) (near.byte_from test s 0))
   where
     h' : (near.byte_from test s 0 < length s.bytes) × (test (s.mark (near.byte_from test s 0)) ≡ true)
-    h' = has-found test s h
+    h' = has_found test s h
 
     over : (from end long : ℕ) → from < long → from < end → end ≤ from + (long - from)
         → let size = min (end - from) (g - cond (eqb from 0) 2 4) in
@@ -100,7 +100,7 @@ module _ (acc : List Bytes) (n : near.Near) (g : ℕ) (sound : NearSound acc n) 
   pending_begun : (x : ℕ) → near.has near.is_pending (n.sdu x) ≡ true → x ≤ near.top n
   pending_begun x h =
       ⊎_elim (λ l. omega (arith, l))
-      (λ l. absurd (both_ways _ (ap near.is_pending (above-top acc n sound x _ l)) (has-found near.is_pending (n.sdu x) h).1))
+      (λ l. absurd (both_ways _ (ap near.is_pending (above_top acc n sound x _ l)) (has_found near.is_pending (n.sdu x) h).1))
       (cases_lt x (near.top n))
 
   -- unsent bytes are sent in the order of their SDUs
@@ -116,10 +116,10 @@ module _ (acc : List Bytes) (n : near.Near) (g : ℕ) (sound : NearSound acc n) 
   found test l = seek_found (λ x. near.has test (n.sdu x)) near.window_size n.tx_next_ack (ltb-true _ _ l)
 
   from_window : (test : near.Mark → Bool) → n.tx_next_ack ≤ near.count_with test n
-  from_window test = seek-from (λ x. near.has test (n.sdu x)) near.window_size n.tx_next_ack
+  from_window test = seek_from (λ x. near.has test (n.sdu x)) near.window_size n.tx_next_ack
 
-  served-fits : (run : near.Run) → near.served n g ≡ Some run → FitRun n g run
-  served-fits run =
+  served_fits : (run : near.Run) → near.served n g ≡ Some run → FitRun n g run
+  served_fits run =
       go (ltb (near.count_with near.is_pending n) (n.tx_next_ack + near.window_size)) (ltb (near.count_with near.is_unsent n) (n.tx_next_ack + near.window_size))
       (λ t. let h = found near.is_pending t in run_fits false near.is_pending (near.count_with near.is_pending n) h (from_window near.is_pending) (pending_begun _ h))
       (λ t. let h = found near.is_unsent t in run_fits true near.is_unsent (near.count_with near.is_unsent n) h (from_window near.is_unsent) (unsent_begun h))
@@ -142,7 +142,7 @@ pub record SpentKept (s : Settings) (acc : List Bytes) (n : near.Near) (g : ℕ)
   pub top_by_one : near.top (near.spent s run n) ≤ near.top n + 1
   pub same_first : (near.spent s run n).tx_next_ack ≡ n.tx_next_ack
   pub same_next : (near.spent s run n).tx_next ≡ n.tx_next
-  pub same-acknowledged : (x : ℕ) → ((near.spent s run n).sdu x).acknowledged ≡ (n.sdu x).acknowledged
+  pub same_acknowledged : (x : ℕ) → ((near.spent s run n).sdu x).acknowledged ≡ (n.sdu x).acknowledged
   pub fits : length (encode (amd (near.amd_of_run s run n))) ≤ g
   pub some : 1 ≤ length (encode (amd (near.amd_of_run s run n)))
 
@@ -150,44 +150,44 @@ module _ (s : Settings) (acc : List Bytes) (n : near.Near) (g : ℕ) (run : near
   spent_here : (x : ℕ) → x ≡ run.count → (near.spent s run n).sdu x ≡ near.sent_run run (n.sdu run.count)
   spent_here x e = cond-true _ _ _ (eq-eqb x run.count e)
 
-  spent-other : (x : ℕ) → (x ≡ run.count → ⊥) → (near.spent s run n).sdu x ≡ n.sdu x
-  spent-other x d = update_other n.sdu run.count _ x d
+  spent_other : (x : ℕ) → (x ≡ run.count → ⊥) → (near.spent s run n).sdu x ≡ n.sdu x
+  spent_other x d = update_other n.sdu run.count _ x d
 
-  spent-bytes : (x : ℕ) → ((near.spent s run n).sdu x).bytes ≡ (n.sdu x).bytes
-  spent-bytes x = go (cases_eq x run.count)
+  spent_bytes : (x : ℕ) → ((near.spent s run n).sdu x).bytes ≡ (n.sdu x).bytes
+  spent_bytes x = go (cases_eq x run.count)
     where
       go : (x ≡ run.count) ⊎ (x ≡ run.count → ⊥) → ((near.spent s run n).sdu x).bytes ≡ (n.sdu x).bytes
       go (inl e) = ap (λ t. t.bytes) (spent_here x e) ∙ ap (λ y. (n.sdu y).bytes) (sym e)
-      go (inr d) = ap (λ t. t.bytes) (spent-other x d)
+      go (inr d) = ap (λ t. t.bytes) (spent_other x d)
 
-  spent-acknowledged : (x : ℕ) → ((near.spent s run n).sdu x).acknowledged ≡ (n.sdu x).acknowledged
-  spent-acknowledged x = go (cases_eq x run.count)
+  spent_acknowledged : (x : ℕ) → ((near.spent s run n).sdu x).acknowledged ≡ (n.sdu x).acknowledged
+  spent_acknowledged x = go (cases_eq x run.count)
     where
       go : (x ≡ run.count) ⊎ (x ≡ run.count → ⊥) → ((near.spent s run n).sdu x).acknowledged ≡ (n.sdu x).acknowledged
       go (inl e) = ap (λ t. t.acknowledged) (spent_here x e) ∙ ap (λ y. (n.sdu y).acknowledged) (sym e)
-      go (inr d) = ap (λ t. t.acknowledged) (spent-other x d)
+      go (inr d) = ap (λ t. t.acknowledged) (spent_other x d)
 
   -- the run is not empty, so its SDU was begun
   run_begun : begun (near.sent_run run (n.sdu run.count)) ≡ true
   run_begun =
       let m : (near.sent_run run (n.sdu run.count)).mark run.from ≡ near.sent =
       cond-true _ _ _ (and_from _ _ (le-leb run.from run.from (omega arith)) (lt-ltb run.from (run.from + run.size) (omega (arith, fit.some)))) in
-      has-at (λ m. not (near.is_unsent m)) (near.sent_run run (n.sdu run.count)) run.from (omega (arith, fit.inside, fit.some)) (ap (λ m. not (near.is_unsent m)) m)
+      has_at (λ m. not (near.is_unsent m)) (near.sent_run run (n.sdu run.count)) run.from (omega (arith, fit.inside, fit.some)) (ap (λ m. not (near.is_unsent m)) m)
 
   spent_begun : (x : ℕ) → n.tx_next_ack ≤ x → ((x ≡ run.count → ⊥) → x < near.top n) → begun ((near.spent s run n).sdu x) ≡ true
   spent_begun x lo l = go (cases_eq x run.count)
     where
       go : (x ≡ run.count) ⊎ (x ≡ run.count → ⊥) → begun ((near.spent s run n).sdu x) ≡ true
       go (inl e) = ap begun (spent_here x e) ∙ run_begun
-      go (inr d) = ap begun (spent-other x d) ∙ top_begun n x lo (l d)
+      go (inr d) = ap begun (spent_other x d) ∙ top_begun n x lo (l d)
 
-  spent-mark : (x i : ℕ) → near.top n ≤ x → run.count < x → ((near.spent s run n).sdu x).mark i ≡ near.unsent
-  spent-mark x i lo l = ap (λ t. t.mark i) (spent-other x (λ e. omega (arith, e, l))) ∙ above-top acc n sound x i lo
+  spent_mark : (x i : ℕ) → near.top n ≤ x → run.count < x → ((near.spent s run n).sdu x).mark i ≡ near.unsent
+  spent_mark x i lo l = ap (λ t. t.mark i) (spent_other x (λ e. omega (arith, e, l))) ∙ above_top acc n sound x i lo
 
   -- a run of the first SDU that was not begun moves `top` on
-  spent-top : ((run.count < near.top n) × (near.top (near.spent s run n) ≡ near.top n))
+  spent_top : ((run.count < near.top n) × (near.top (near.spent s run n) ≡ near.top n))
       ⊎ ((run.count ≡ near.top n) × (near.top (near.spent s run n) ≡ near.top n + 1))
-  spent-top = go (cases_lt run.count (near.top n))
+  spent_top = go (cases_lt run.count (near.top n))
     where
       go : (run.count < near.top n) ⊎ (near.top n ≤ run.count)
           → ((run.count < near.top n) × (near.top (near.spent s run n) ≡ near.top n))
@@ -197,7 +197,7 @@ module _ (s : Settings) (acc : List Bytes) (n : near.Near) (g : ℕ) (run : near
             l,
             top_is (near.spent s run n) (near.top n) (top_from n) (omega (arith, sound.begun, sound.window))
                 (λ x lo hi. spent_begun x lo (λ d. hi))
-                (not_begun ((near.spent s run n).sdu (near.top n)) (λ i. spent-mark (near.top n) i (omega arith) l)),
+                (not_begun ((near.spent s run n).sdu (near.top n)) (λ i. spent_mark (near.top n) i (omega arith) l)),
           )
       go (inr l) =
           let e : run.count ≡ near.top n = omega (arith, l, fit.begun_to) in
@@ -205,12 +205,12 @@ module _ (s : Settings) (acc : List Bytes) (n : near.Near) (g : ℕ) (run : near
             e,
             top_is (near.spent s run n) (near.top n + 1) (omega (arith, top_from n)) (omega (arith, e, fit.high, sound.window))
                 (λ x lo hi. spent_begun x lo (λ d. omega (arith, d, hi, e)))
-                (not_begun ((near.spent s run n).sdu (near.top n + 1)) (λ i. spent-mark (near.top n + 1) i (omega arith) (omega (arith, e)))),
+                (not_begun ((near.spent s run n).sdu (near.top n + 1)) (λ i. spent_mark (near.top n + 1) i (omega arith) (omega (arith, e)))),
           )
 
-  top-bounds : (near.top n ≤ near.top (near.spent s run n)) × (near.top (near.spent s run n) ≤ near.top n + 1)
+  top_bounds : (near.top n ≤ near.top (near.spent s run n)) × (near.top (near.spent s run n) ≤ near.top n + 1)
       × (run.count < near.top (near.spent s run n)) × (near.top (near.spent s run n) ≤ n.tx_next)
-  top-bounds = go (near.top (near.spent s run n)) (near.top n) spent-top sound.begun fit.high
+  top_bounds = go (near.top (near.spent s run n)) (near.top n) spent_top sound.begun fit.high
     where
       go : (t u : ℕ) → ((run.count < u) × (t ≡ u)) ⊎ ((run.count ≡ u) × (t ≡ u + 1)) → u ≤ n.tx_next → run.count < n.tx_next
           → (u ≤ t) × (t ≤ u + 1) × (run.count < t) × (t ≤ n.tx_next)
@@ -223,36 +223,36 @@ module _ (s : Settings) (acc : List Bytes) (n : near.Near) (g : ℕ) (run : near
         packets = sound.packets;
         counts = sound.counts;
         next = sound.next;
-        begun = top-bounds.3;
+        begun = top_bounds.3;
         window = sound.window;
-        below = λ x l. spent-other x (λ e. omega (arith, e, l, fit.low)) ∙ sound.below x l;
-        lowest = λ l. spent-acknowledged n.tx_next_ack ∙ sound.lowest l;
-        beyond = λ x l. spent-other x (λ e. omega (arith, e, l, fit.high)) ∙ sound.beyond x l;
-        bytes = λ x lo hi. spent-bytes x ∙ sound.bytes x lo hi;
-        unbegun = λ x i lo hi. spent-mark x i (omega (arith, lo, top-bounds.0)) (omega (arith, lo, top-bounds.2));
-        acknowledged = λ x e. omega (arith, top-bounds.0, sound.acknowledged x (sym (spent-acknowledged x) ∙ e));
+        below = λ x l. spent_other x (λ e. omega (arith, e, l, fit.low)) ∙ sound.below x l;
+        lowest = λ l. spent_acknowledged n.tx_next_ack ∙ sound.lowest l;
+        beyond = λ x l. spent_other x (λ e. omega (arith, e, l, fit.high)) ∙ sound.beyond x l;
+        bytes = λ x lo hi. spent_bytes x ∙ sound.bytes x lo hi;
+        unbegun = λ x i lo hi. spent_mark x i (omega (arith, lo, top_bounds.0)) (omega (arith, lo, top_bounds.2));
+        acknowledged = λ x e. omega (arith, top_bounds.0, sound.acknowledged x (sym (spent_acknowledged x) ∙ e));
       }
 
-  spent-kept : SpentKept s acc n g run
-  spent-kept =
+  spent_kept : SpentKept s acc n g run
+  spent_kept =
       let bytes = (n.sdu run.count).bytes in
       let size = part_size (near.polls s run n) bytes run.count run.from run.size fit.some fit.inside in
       record {
         sound = spent_sound;
         low = fit.low;
         high = fit.high;
-        begun = top-bounds.2;
+        begun = top_bounds.2;
         part = subst (λ b. PartOf b run.count (near.amd_of_run s run n)) (sound.bytes run.count fit.low fit.high)
             (part_is (near.polls s run n) bytes run.count run.from run.size fit.some fit.inside);
-        top_grows = top-bounds.0;
-        top_by_one = top-bounds.1;
+        top_grows = top_bounds.0;
+        top_by_one = top_bounds.1;
         same_first = refl;
         same_next = refl;
-        same-acknowledged = spent-acknowledged;
+        same_acknowledged = spent_acknowledged;
         fits = omega (arith, size, fit.fits);
         some = omega (arith, size, fit.some);
       }
 
 pub near_spent : (s : Settings) (acc : List Bytes) (n : near.Near) (g : ℕ) (run : near.Run) → NearSound acc n → 5 ≤ g
     → near.served n g ≡ Some run → SpentKept s acc n g run
-near_spent s acc n g run sound enough serves = spent-kept s acc n g run sound (served-fits acc n g sound enough run serves)
+near_spent s acc n g run sound enough serves = spent_kept s acc n g run sound (served_fits acc n g sound enough run serves)

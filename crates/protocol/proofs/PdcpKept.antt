@@ -4,7 +4,7 @@ use Rattle.std.proofs.Common.{◌≡◌, ℕ, ◌+◌, ◌-◌, ◌%◌, ◌<◌
 use Rattle.protocol.proofs.Counts.{one_pdcp_count}
 use Rattle.protocol.proofs.Formats.{pdcp_round_trip}
 use Rattle.protocol.proofs.Invariants.{Packets, packet, sdu, StoreSound, PdcpSound}
-use Rattle.protocol.proofs.Seeks.{seek-from, seek_to, seek_found, seek-before}
+use Rattle.protocol.proofs.Seeks.{seek_from, seek_to, seek_found, seek_before}
 use Rattle.protocol.proofs.Strikes.{within_append, within_longer}
 use Rattle.protocol.specs.Airs.{Within, done}
 use Rattle.protocol.specs.Bytes.{Bytes}
@@ -21,11 +21,11 @@ use Rattle.std.proofs.lemmas.Bool.{both_ways, cases_lt, cases_Bool, cond-true, c
 -- the store ---------------------------------------------------------------------------------------------------------
 
 -- stored counts lie between the bounds
-pub stored-from : (acc : List Bytes) (low high : ℕ) (ss : List Stored) → StoreSound acc low high ss → (c : ℕ) → is_stored ss c ≡ true → (low ≤ c) × (c < high)
-stored-from acc low high [] sound c e = absurd (both_ways false refl e)
-stored-from acc low high (s ∷ ss) sound c e =
+pub stored_from : (acc : List Bytes) (low high : ℕ) (ss : List Stored) → StoreSound acc low high ss → (c : ℕ) → is_stored ss c ≡ true → (low ≤ c) × (c < high)
+stored_from acc low high [] sound c e = absurd (both_ways false refl e)
+stored_from acc low high (s ∷ ss) sound c e =
     ⊎_elim (λ h. let same = eqb-true s.count c h in (omega (arith, sound.0), omega (arith, sound.1)))
-    (λ h. let rest = stored-from acc (s.count + 1) high ss sound.3 c h in (omega (arith, sound.0, rest.0), rest.1))
+    (λ h. let rest = stored_from acc (s.count + 1) high ss sound.3 c h in (omega (arith, sound.0, rest.0), rest.1))
     (or_cases (eqb s.count c) (is_stored ss c) e)
 
 -- a wider range serves
@@ -53,9 +53,9 @@ insert_sound acc low high (s ∷ ss) c sound new l h =
         let other = eqb-false s.count c (or_parts (eqb s.count c) (is_stored ss c) new).0 in
         (sound.0, sound.1, sound.2, behind (omega (arith, ge, other)))
 
-pub insert-stored : (new : Stored) (ss : List Stored) (c : ℕ) → is_stored (insert new ss) c ≡ (eqb new.count c || is_stored ss c)
-insert-stored new [] c = refl
-insert-stored new (s ∷ ss) c = go (ltb new.count s.count) (insert-stored new ss c)
+pub insert_stored : (new : Stored) (ss : List Stored) (c : ℕ) → is_stored (insert new ss) c ≡ (eqb new.count c || is_stored ss c)
+insert_stored new [] c = refl
+insert_stored new (s ∷ ss) c = go (ltb new.count s.count) (insert_stored new ss c)
   where
     swapped : (x y z : Bool) → (x || (y || z)) ≡ (y || (x || z))
     swapped true true z = refl
@@ -69,11 +69,11 @@ insert-stored new (s ∷ ss) c = go (ltb new.count s.count) (insert-stored new s
     go false e = ap (λ b. eqb s.count c || b) e ∙ swapped (eqb s.count c) (eqb new.count c) (is_stored ss c)
 
 -- the first COUNT from c on that is not stored
-next-missing : (acc : List Bytes) (low high : ℕ) (ss : List Stored) (c : ℕ) → StoreSound acc low high ss → c ≤ high
+next_missing : (acc : List Bytes) (low high : ℕ) (ss : List Stored) (c : ℕ) → StoreSound acc low high ss → c ≤ high
     → let r = seek (λ k. not (is_stored ss k)) (high - c) c in
     (c ≤ r) × (r ≤ high) × (is_stored ss r ≡ false) × ((k : ℕ) → c ≤ k → k < r → is_stored ss k ≡ true)
-next-missing acc low high ss c sound le =
-    (from, to, ⊎_elim found past (cases_lt r high), λ k lo hi. not-false (is_stored ss k) (seek-before missing (high - c) c k lo hi))
+next_missing acc low high ss c sound le =
+    (from, to, ⊎_elim found past (cases_lt r high), λ k lo hi. not-false (is_stored ss k) (seek_before missing (high - c) c k lo hi))
   where
     missing : ℕ → Bool
     missing k = not (is_stored ss k)
@@ -82,7 +82,7 @@ next-missing acc low high ss c sound le =
     r = seek (λ k. not (is_stored ss k)) (high - c) c
 
     from : c ≤ seek (λ k. not (is_stored ss k)) (high - c) c
-    from = seek-from (λ k. not (is_stored ss k)) (high - c) c
+    from = seek_from (λ k. not (is_stored ss k)) (high - c) c
 
     to : seek (λ k. not (is_stored ss k)) (high - c) c ≤ high
     to = omega (arith, seek_to (λ k. not (is_stored ss k)) (high - c) c)
@@ -91,7 +91,7 @@ next-missing acc low high ss c sound le =
     found h = not-true _ (seek_found (λ k. not (is_stored ss k)) (high - c) c (omega arith))
 
     past : high ≤ seek (λ k. not (is_stored ss k)) (high - c) c → is_stored ss (seek (λ k. not (is_stored ss k)) (high - c) c) ≡ false
-    past h = ⊎_elim (λ e. let inside = stored-from acc low high ss sound _ e in absurd (omega (arith, inside.1, h))) (λ e. e) (cases_Bool (is_stored ss (seek (λ k. not (is_stored ss k)) (high - c) c)))
+    past h = ⊎_elim (λ e. let inside = stored_from acc low high ss sound _ e in absurd (omega (arith, inside.1, h))) (λ e. e) (cases_Bool (is_stored ss (seek (λ k. not (is_stored ss k)) (high - c) c)))
 
 -- PDCP's variables ------------------------------------------------------------------------------------------------------
 
@@ -159,13 +159,13 @@ module _ (acc got : List Bytes) (ran : Bool) where
 
       -- what was stored stays so
       stays : (k : ℕ) → is_stored p.store k ≡ true → is_stored (insert (record { count = c; packet = packet acc c }) p.store) k ≡ true
-      stays k h = insert-stored (record { count = c; packet = packet acc c }) p.store k ∙ or_right (eqb c k) (is_stored p.store k) h
+      stays k h = insert_stored (record { count = c; packet = packet acc c }) p.store k ∙ or_right (eqb c k) (is_stored p.store k) h
 
       go : (b : Bool) → eqb c p.rx_deliv ≡ b
           → PdcpSound acc got ran (delivering (cond b (unstored_from (storing c (packet acc c) p) c) p.rx_deliv) (storing c (packet acc c) p))
       go true e =
           let same = eqb-true c p.rx_deliv e in
-          let next = next-missing acc sound.low (max p.pdcp_rx_next (c + 1)) (insert (record { count = c; packet = packet acc c }) p.store) c wide (omega arith) in
+          let next = next_missing acc sound.low (max p.pdcp_rx_next (c + 1)) (insert (record { count = c; packet = packet acc c }) p.store) c wide (omega arith) in
           delivering_sound (storing c (packet acc c) p) (unstored_from (storing c (packet acc c) p) c) sound.low
           (omega (arith, sound.low_to, from, next.0)) next.1 (omega (arith, sound.next_to, small)) wide next.2
           (λ on. omega (arith, (sound.reorder on).1)) sound.in_order sound.first_ones
@@ -174,7 +174,7 @@ module _ (acc got : List Bytes) (ran : Bool) where
       go false e =
           let other = eqb-false c p.rx_deliv e in
           delivering_sound (storing c (packet acc c) p) p.rx_deliv sound.low sound.low_to (omega (arith, sound.deliv_to)) (omega (arith, sound.next_to, small)) wide
-          (insert-stored (record { count = c; packet = packet acc c }) p.store p.rx_deliv ∙ or_from (eqb c p.rx_deliv) (is_stored p.store p.rx_deliv) e sound.awaited)
+          (insert_stored (record { count = c; packet = packet acc c }) p.store p.rx_deliv ∙ or_from (eqb c p.rx_deliv) (is_stored p.store p.rx_deliv) e sound.awaited)
           (λ on. omega (arith, (sound.reorder on).1)) sound.in_order sound.first_ones (λ still k lo hi. stays k (sound.no_gap still k lo hi))
 
   -- what is held stays held, and a packet that was accepted is held
@@ -195,8 +195,8 @@ module _ (acc got : List Bytes) (ran : Bool) where
   held_by p q d st k (inl h) = inl (subst (λ n. k < n) (sym d) h)
   held_by p q d st k (inr h) = inr (ap (λ ss. is_stored ss k) st ∙ h)
 
-  accepted-holds : (s : Settings) (p : Pdcp) (c : ℕ) → p.rx_deliv ≤ c → HoldsOn p (accepted s c (packet acc c) p) × Held (accepted s c (packet acc c) p) c
-  accepted-holds s p c from = (
+  accepted_holds : (s : Settings) (p : Pdcp) (c : ℕ) → p.rx_deliv ≤ c → HoldsOn p (accepted s c (packet acc c) p) × Held (accepted s c (packet acc c) p) c
+  accepted_holds s p c from = (
     λ k h. held_by moved (reordering s moved) (reordering_keeps s moved).0 (reordering_keeps s moved).1 k (on k h),
     held_by moved (reordering s moved) (reordering_keeps s moved).0 (reordering_keeps s moved).1 c (inr here),
   )
@@ -205,24 +205,24 @@ module _ (acc got : List Bytes) (ran : Bool) where
       moved = delivering (cond (eqb c p.rx_deliv) (unstored_from (storing c (packet acc c) p) c) p.rx_deliv) (storing c (packet acc c) p)
 
       here : is_stored (insert (record { count = c; packet = packet acc c }) p.store) c ≡ true
-      here = insert-stored (record { count = c; packet = packet acc c }) p.store c ∙ or_left (eqb c c) (is_stored p.store c) (eq-eqb c c refl)
+      here = insert_stored (record { count = c; packet = packet acc c }) p.store c ∙ or_left (eqb c c) (is_stored p.store c) (eq-eqb c c refl)
 
       further : (b : Bool) → p.rx_deliv ≤ cond b (unstored_from (storing c (packet acc c) p) c) p.rx_deliv
-      further true = omega (arith, from, seek-from (λ k. not (is_stored (insert (record { count = c; packet = packet acc c }) p.store) k)) (max p.pdcp_rx_next (c + 1) - c) c)
+      further true = omega (arith, from, seek_from (λ k. not (is_stored (insert (record { count = c; packet = packet acc c }) p.store) k)) (max p.pdcp_rx_next (c + 1) - c) c)
       further false = omega arith
 
       on : (k : ℕ) → Held p k → Held (delivering (cond (eqb c p.rx_deliv) (unstored_from (storing c (packet acc c) p) c) p.rx_deliv) (storing c (packet acc c) p)) k
       on k (inl h) = inl (omega (arith, h, further (eqb c p.rx_deliv)))
-      on k (inr h) = inr (insert-stored (record { count = c; packet = packet acc c }) p.store k ∙ or_right (eqb c k) (is_stored p.store k) h)
+      on k (inr h) = inr (insert_stored (record { count = c; packet = packet acc c }) p.store k ∙ or_right (eqb c k) (is_stored p.store k) h)
 
   -- the lowest stored packet is due, and is collected
   pub lowest_stored : (low high : ℕ) (s : Stored) (ss : List Stored) → StoreSound acc low high (s ∷ ss) → (c : ℕ) → is_stored (s ∷ ss) c ≡ true → s.count ≤ c
   lowest_stored low high s ss sound c e =
-      ⊎_elim (λ h. omega (arith, eqb-true s.count c h)) (λ h. omega (arith, (stored-from acc (s.count + 1) high ss sound.3 c h).0))
+      ⊎_elim (λ h. omega (arith, eqb-true s.count c h)) (λ h. omega (arith, (stored_from acc (s.count + 1) high ss sound.3 c h).0))
       (or_cases (eqb s.count c) (is_stored ss c) e)
 
-  pub other-stored : (s : Stored) (ss : List Stored) (c : ℕ) → s.count < c → is_stored (s ∷ ss) c ≡ true → is_stored ss c ≡ true
-  other-stored s ss c lt e =
+  pub other_stored : (s : Stored) (ss : List Stored) (c : ℕ) → s.count < c → is_stored (s ∷ ss) c ≡ true → is_stored ss c ≡ true
+  other_stored s ss c lt e =
       ⊎_elim (λ h. absurd (omega (arith, lt, eqb-true s.count c h))) (λ h. h) (or_cases (eqb s.count c) (is_stored ss c) e)
 
 -- One more packet collected: the packet of COUNT c, the lowest that is stored.
@@ -250,7 +250,7 @@ module _ (acc got : List Bytes) (ran : Bool) (p : Pdcp) (s : Stored) (rest : Lis
             let same : s.count ≡ sound.low = first_is still store in
             ap (λ front. front ++ s.packet ∷ []) (sound.first_ones still ∙ ap (λ n. take n acc) (sym same)) ∙ sym one_more;
         no_gap = λ still c lo hi.
-            other-stored acc got ran s rest c (omega (arith, lo)) (ap (λ ss. is_stored ss c) (sym is) ∙ sound.no_gap still c (omega (arith, lo, store.0)) hi);
+            other_stored acc got ran s rest c (omega (arith, lo)) (ap (λ ss. is_stored ss c) (sym is) ∙ sound.no_gap still c (omega (arith, lo, store.0)) hi);
       }
     where
       -- nothing is missing below RX_DELIV, so the lowest stored COUNT is the first that was not collected
@@ -260,10 +260,10 @@ module _ (acc got : List Bytes) (ran : Bool) (p : Pdcp) (s : Stored) (rest : Lis
           omega (arith, store.0, lowest_stored acc got ran sound.low p.pdcp_rx_next s rest store sound.low (ap (λ ss. is_stored ss sound.low) (sym is) ∙ here))
 
 -- a Tick: t-Reordering may run out, and then packets may be given up
-pub runs-before : (t : Timer) → runs_out t ≡ true → runs t ≡ true
-runs-before stopped e = absurd (both_ways false refl e)
-runs-before (running left) e = refl
-runs-before endless e = absurd (both_ways false refl e)
+pub runs_before : (t : Timer) → runs_out t ≡ true → runs t ≡ true
+runs_before stopped e = absurd (both_ways false refl e)
+runs_before (running left) e = refl
+runs_before endless e = absurd (both_ways false refl e)
 
 ran_before : (t : Timer) → runs (ticked t) ≡ true → runs t ≡ true
 ran_before stopped e = e
@@ -280,8 +280,8 @@ ticked_sound acc got ran s p sound = go (runs_out p.t_reordering) refl
         (reordering s (record { rx_deliv = unstored_from p p.rx_reord; pdcp_rx_next = p.pdcp_rx_next; rx_reord = p.rx_reord; store = p.store; t_reordering = stopped }))
         (record { rx_deliv = p.rx_deliv; pdcp_rx_next = p.pdcp_rx_next; rx_reord = p.rx_reord; store = p.store; t_reordering = ticked p.t_reordering }))
     go true e =
-        let bounds = sound.reorder (runs-before p.t_reordering e) in
-        let next = next-missing acc sound.low p.pdcp_rx_next p.store p.rx_reord sound.store bounds.1 in
+        let bounds = sound.reorder (runs_before p.t_reordering e) in
+        let next = next_missing acc sound.low p.pdcp_rx_next p.store p.rx_reord sound.store bounds.1 in
         let over : (ran || true) ≡ true = or_right ran true refl in
         reordering_sound acc got (ran || true) s
         (record { rx_deliv = unstored_from p p.rx_reord; pdcp_rx_next = p.pdcp_rx_next; rx_reord = p.rx_reord; store = p.store; t_reordering = stopped })
@@ -395,7 +395,7 @@ handed_sound acc got ran s c p packets sound small near_front near_back =
         }
     go false e =
         let from = ltb-false c p.rx_deliv (or_parts (ltb c p.rx_deliv) (is_stored p.store c) e).0 in
-        let holds = accepted-holds acc got ran s p c from in
+        let holds = accepted_holds acc got ran s p c from in
         record {
           after = accepted s c (packet acc c) p;
           answer = outcome ∙ ap {B = Result Pdcp Fault} Ok (cond-false _ _ _ e);
@@ -420,8 +420,8 @@ ticked_keeps acc got ran s p sound = go (runs_out p.t_reordering) refl
         ((k : ℕ) → Held acc got ran p k → Held acc got ran q k) × (q.pdcp_rx_next ≡ p.pdcp_rx_next)
     go true e =
         let same = reordering_keeps acc got ran s moved in
-        let bounds = sound.reorder (runs-before p.t_reordering e) in
-        let further = seek-from (λ c. not (is_stored p.store c)) (p.pdcp_rx_next - p.rx_reord) p.rx_reord in (
+        let bounds = sound.reorder (runs_before p.t_reordering e) in
+        let further = seek_from (λ c. not (is_stored p.store c)) (p.pdcp_rx_next - p.rx_reord) p.rx_reord in (
           λ k h. held_by acc got ran moved (reordering s moved) same.0 same.1 k (⊎_elim (λ l. inl (omega (arith, l, bounds.0, further))) inr h),
           same.2,
         )

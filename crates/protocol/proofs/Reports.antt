@@ -10,10 +10,10 @@ use Rattle.protocol.specs.Refusals.{unless}
 use Rattle.protocol.specs.Sending as near
 use Rattle.protocol.specs.Writing.{entries_fault, pdu_fault}
 use Rattle.protocol.specs.declared.faults.End.TheVariants.{Near}
-use Rattle.protocol.proofs.FarKept.{sdu-short}
-use Rattle.protocol.proofs.Formats.{written-reads-back}
+use Rattle.protocol.proofs.FarKept.{sdu_short}
+use Rattle.protocol.proofs.Formats.{written_reads_back}
 use Rattle.protocol.proofs.Invariants.{Packets, sdu, PartialSound, FarSound}
-use Rattle.protocol.proofs.Seeks.{seek-from, seek_to, seek_found}
+use Rattle.protocol.proofs.Seeks.{seek_from, seek_to, seek_found}
 use Rattle.std.proofs.ByRecursion.{All-append, All-weaker}
 use Rattle.std.proofs.lemmas.Bool.{both_ways, cases_eq, cases_lt, cond-true, cond_both, eq-eqb, le-leb, leb-true, ltb-true, ltb-false, not-true, and_from, or_left, or_right}
 use Rattle.std.specs.List.{AllByRecursion}
@@ -57,14 +57,14 @@ module _ (p : far.Partial) (x : ℕ) (small : far.limit p < 65536) where
 
       missing : far.holds p m ≡ false
       missing =
-          not-true _ (seek_found (λ j. not (far.holds p j)) (far.limit p - i) i (omega (arith, l, seek-from (λ j. not (far.holds p j)) (far.limit p - i) i)))
+          not-true _ (seek_found (λ j. not (far.holds p j)) (far.limit p - i) i (omega (arith, l, seek_from (λ j. not (far.holds p j)) (far.limit p - i) i)))
 
       longer : m < stop
       longer = ⊎_elim (λ h. h) (λ h. absurd (empty h)) (cases_lt m stop)
         where
           empty : stop ≤ m → ⊥
           empty h =
-              let same : stop ≡ m = omega (arith, h, seek-from (far.holds p) (far.limit p - m) m) in
+              let same : stop ≡ m = omega (arith, h, seek_from (far.holds p) (far.limit p - m) m) in
               let found : far.holds p stop ≡ true = seek_found (far.holds p) (far.limit p - m) m (omega (arith, h, l)) in
               both_ways _ missing (sym (ap (far.holds p) same) ∙ found)
 
@@ -142,7 +142,7 @@ pub record EntryBetween (low high : ℕ) (e : Entry) : Type 0 where
 
 -- A report on the counts from `low` on, `high` at most, in this room. What is not complete below its ACK count is named.
 pub record Reports (f : far.Far) (low high room : ℕ) (r : far.Report) : Type 0 where
-  pub ack-from : low ≤ r.ack
+  pub ack_from : low ≤ r.ack
   pub ack_to : r.ack ≤ high
   pub in_room : far.entries_length r.entries ≤ room
   pub true_entries : AllByRecursion (EntryBetween low r.ack) r.entries
@@ -162,7 +162,7 @@ pub report_from_right : (f : far.Far) (fuel x room : ℕ) → ((y : ℕ) → x �
     → Reports f x (x + fuel) room (far.report_from f fuel x room)
 report_from_right f zero x room small =
     record {
-      ack-from = omega arith;
+      ack_from = omega arith;
       ack_to = omega arith;
       in_room = omega arith;
       true_entries = tt;
@@ -185,7 +185,7 @@ report_from_right f (suc fuel) x room small =
     go true c room_left e again =
         let r = again room in
         record {
-          ack-from = omega (arith, r.ack-from);
+          ack_from = omega (arith, r.ack_from);
           ack_to = omega (arith, r.ack_to);
           in_room = r.in_room;
           true_entries = lower x _ _ r.true_entries;
@@ -197,13 +197,13 @@ report_from_right f (suc fuel) x room small =
         let rest = far.report_from f fuel (suc x) left in
         let room_is : far.entries_length own ≤ room = leb-true _ _ e in
         record {
-          ack-from = omega (arith, r.ack-from);
+          ack_from = omega (arith, r.ack_from);
           ack_to = omega (arith, r.ack_to);
           in_room = omega (arith, r.in_room, entries_length-append own rest.entries, room_is);
           true_entries =
               All-append (EntryBetween x rest.ack) own rest.entries
               (All-weaker (EntryOf x) (EntryBetween x rest.ack)
-              (λ k b. record { count = x; from = omega arith; to = omega (arith, r.ack-from); entry = b }) own
+              (λ k b. record { count = x; from = omega arith; to = omega (arith, r.ack_from); entry = b }) own
               (sdu_entries_right (f.sdu x) x (small x (omega arith) (omega arith))))
               (lower x rest.ack rest.entries r.true_entries);
           named = λ y lo hi o.
@@ -212,7 +212,7 @@ report_from_right f (suc fuel) x room small =
         }
     go false c false e again =
         record {
-          ack-from = omega arith;
+          ack_from = omega arith;
           ack_to = omega arith;
           in_room = omega arith;
           true_entries = tt;
@@ -229,11 +229,11 @@ limit_small bytes p short sound = go p.known_end refl
 pub report_right : (acc : List Bytes) (f : far.Far) (grant : ℕ) → Packets acc → FarSound acc f
     → Reports f f.rx_next f.rx_highest_status (grant - 3) (far.report f grant)
 report_right acc f grant packets h =
-    subst (λ high. Reports f f.rx_next high (grant - 3) (far.report f grant)) (omega (arith, h.status-from))
+    subst (λ high. Reports f f.rx_next high (grant - 3) (far.report f grant)) (omega (arith, h.status_from))
     (report_from_right f (f.rx_highest_status - f.rx_next) f.rx_next (grant - 3)
     (λ y lo hi.
-    let seen : y < f.rx_next_highest = omega (arith, hi, h.status-from, h.status_to) in
-    limit_small (sdu acc y) (f.sdu y) (sdu-short acc y packets (omega (arith, seen, h.seen))) (h.true_sdus y lo seen)))
+    let seen : y < f.rx_next_highest = omega (arith, hi, h.status_from, h.status_to) in
+    limit_small (sdu acc y) (f.sdu y) (sdu_short acc y packets (omega (arith, seen, h.seen))) (h.true_sdus y lo seen)))
 
 -- below the ACK count, what no entry names is complete
 pub unnamed_complete : (acc : List Bytes) (f : far.Far) (grant y : ℕ) → Packets acc → FarSound acc f → y < (far.report f grant).ack
@@ -255,14 +255,14 @@ named_in n (e ∷ es) y count (inr there) = or_right _ _ (named_in n es y count 
 
 -- as bytes -----------------------------------------------------------------------------------------------------------
 
-pub entries-bytes : (es : List Entry) → length (encode_entries es) ≡ far.entries_length es
-entries-bytes [] = refl
-entries-bytes (e ∷ es) = omega (arith, length-append (encode_entry (more es) e) (encode_entries es), entries-bytes es)
+pub entries_bytes : (es : List Entry) → length (encode_entries es) ≡ far.entries_length es
+entries_bytes [] = refl
+entries_bytes (e ∷ es) = omega (arith, length-append (encode_entry (more es) e) (encode_entries es), entries_bytes es)
 
-pub report-length : (acc : List Bytes) (f : far.Far) (grant : ℕ) → Packets acc → FarSound acc f → 5 ≤ grant
+pub report_length : (acc : List Bytes) (f : far.Far) (grant : ℕ) → Packets acc → FarSound acc f → 5 ≤ grant
     → length (encode_status ((far.report f grant).ack % sn_modulus) (far.report f grant).entries) ≤ grant
-report-length acc f grant packets h g =
-    omega (arith, entries-bytes (far.report f grant).entries, (report_right acc f grant packets h).in_room)
+report_length acc f grant packets h g =
+    omega (arith, entries_bytes (far.report f grant).entries, (report_right acc f grant packets h).in_room)
 
 -- the PDU of a report
 abbrev pub report_pdu : far.Report → Pdu
@@ -273,33 +273,33 @@ entries_fit low high [] all = tt
 entries_fit low high (e ∷ es) all =
     (omega (arith, all.0.entry.number, mod-lt all.0.count {m = sn_modulus} (omega arith)), all.0.entry.fits, entries_fit low high es all.1)
 
-pub report-fits : (acc : List Bytes) (f : far.Far) (grant : ℕ) → Packets acc → FarSound acc f → Fits (report_pdu (far.report f grant))
-report-fits acc f grant packets h =
+pub report_fits : (acc : List Bytes) (f : far.Far) (grant : ℕ) → Packets acc → FarSound acc f → Fits (report_pdu (far.report f grant))
+report_fits acc f grant packets h =
     (mod-lt (far.report f grant).ack {m = sn_modulus} (omega arith), entries_fit _ _ _ (report_right acc f grant packets h).true_entries)
 
 -- numbers of counts that lie close are as far apart as the counts
 ahead_by : (y ack : ℕ) → y < ack → ack ≤ y + 16 → ahead sn_modulus (y % sn_modulus) (ack % sn_modulus) ≡ ack - y
 ahead_by y ack l h = omega (arith, l, h)
 
-pub entries-valid : (low high place : ℕ) (es : List Entry) → high ≤ low + 16 → AllByRecursion (EntryBetween low high) es
+pub entries_valid : (low high place : ℕ) (es : List Entry) → high ≤ low + 16 → AllByRecursion (EntryBetween low high) es
     → entries_fault (high % sn_modulus) place es ≡ None
-entries-valid low high place [] w all = refl
-entries-valid low high place (e ∷ es) w all =
+entries_valid low high place [] w all = refl
+entries_valid low high place (e ∷ es) w all =
     let here = all.0 in
     let far_by : ahead sn_modulus e.nack_sn (high % sn_modulus) ≡ high - here.count =
     ap (λ n. ahead sn_modulus n (high % sn_modulus)) here.entry.number ∙ ahead_by here.count high here.to (omega (arith, here.from, w)) in
     let some : 1 ≤ ahead sn_modulus e.nack_sn (high % sn_modulus) = omega (arith, far_by, here.to) in
     let near_by : ahead sn_modulus e.nack_sn (high % sn_modulus) ≤ 2048 = omega (arith, far_by, here.from, w) in
     let ok : valid (high % sn_modulus) e ≡ true = and_from _ _ (and_from _ _ (le-leb 1 _ some) (le-leb _ 2048 near_by)) here.entry.ordered in
-    cond-true _ _ _ ok ∙ entries-valid low high (place + length (encode_entry true e)) es w all.1
+    cond-true _ _ _ ok ∙ entries_valid low high (place + length (encode_entry true e)) es w all.1
 
 -- the near end reads the report that was made
-pub report-reads : (acc : List Bytes) (f : far.Far) (grant : ℕ) → Packets acc → FarSound acc f
+pub report_reads : (acc : List Bytes) (f : far.Far) (grant : ℕ) → Packets acc → FarSound acc f
     → decode Near (encode (report_pdu (far.report f grant))) ≡ Ok (report_pdu (far.report f grant))
-report-reads acc f grant packets h =
+report_reads acc f grant packets h =
     let r = report_right acc f grant packets h in
     let no_fault : pdu_fault (report_pdu (far.report f grant)) ≡ None =
-    entries-valid f.rx_next (far.report f grant).ack 3 (far.report f grant).entries
+    entries_valid f.rx_next (far.report f grant).ack 3 (far.report f grant).entries
     (omega (arith, r.ack_to, h.status_to, h.window)) r.true_entries in
-    written-reads-back (report_pdu (far.report f grant)) (report-fits acc f grant packets h)
+    written_reads_back (report_pdu (far.report f grant)) (report_fits acc f grant packets h)
     ∙ ap (λ o. unless o (Ok (report_pdu (far.report f grant)))) no_fault

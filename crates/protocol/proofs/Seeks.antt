@@ -4,9 +4,9 @@ use Rattle.protocol.specs.Searching.{seek, update}
 use Rattle.std.proofs.lemmas.Bool.{both_ways, cases_eq, cases_lt, cond-true, cond-false, eq-eqb, ne_eqb}
 
 module _ (test : ℕ → Bool) where
-  pub seek-from : (n i : ℕ) → i ≤ seek test n i
-  seek-from zero i = omega arith
-  seek-from (suc n) i = go (test i) (seek-from n (suc i))
+  pub seek_from : (n i : ℕ) → i ≤ seek test n i
+  seek_from zero i = omega arith
+  seek_from (suc n) i = go (test i) (seek_from n (suc i))
     where
       go : (b : Bool) → suc i ≤ seek test n (suc i) → i ≤ cond b i (seek test n (suc i))
       go true h = omega arith
@@ -31,9 +31,9 @@ module _ (test : ℕ → Bool) where
       go false e l again = again (omega (arith, l))
 
   -- before it, the test fails
-  pub seek-before : (n i k : ℕ) → i ≤ k → k < seek test n i → test k ≡ false
-  seek-before zero i k lo hi = absurd (omega (arith, lo, hi))
-  seek-before (suc n) i k lo hi = go (test i) refl hi (seek-before n (suc i) k)
+  pub seek_before : (n i k : ℕ) → i ≤ k → k < seek test n i → test k ≡ false
+  seek_before zero i k lo hi = absurd (omega (arith, lo, hi))
+  seek_before (suc n) i k lo hi = go (test i) refl hi (seek_before n (suc i) k)
     where
       go : (b : Bool) → test i ≡ b → k < cond b i (seek test n (suc i)) → (suc i ≤ k → k < seek test n (suc i) → test k ≡ false) → test k ≡ false
       go true e l again = absurd (omega (arith, lo, l))
@@ -45,7 +45,7 @@ module _ (test : ℕ → Bool) where
 
   -- so it is the first one that passes
   pub seek_least : (n i k : ℕ) → i ≤ k → test k ≡ true → seek test n i ≤ k
-  seek_least n i k lo t = ⊎_elim (λ h. absurd (both_ways (test k) (seek-before n i k lo h) t)) (λ h. h) (cases_lt k (seek test n i))
+  seek_least n i k lo t = ⊎_elim (λ h. absurd (both_ways (test k) (seek_before n i k lo h) t)) (λ h. h) (cases_lt k (seek test n i))
 
 pub update_same : {A : Type 0} (f : ℕ → A) (x : ℕ) (a : A) → update f x a x ≡ a
 update_same f x a = cond-true _ _ _ (eq-eqb x x refl)

@@ -1,9 +1,9 @@
 -- The invariant delivers.
 use Rattle.std.proofs.Common.{◌≡◌, ℕ, suc, ◌+◌, ◌-◌, ◌<◌, ◌≤◌, true, false, eqb, List, [], ◌∷◌, ◌++◌, length, get_or, take, drop, sym, refl, ap, ◌∙◌, subst, inl, inr, ⊎_elim, arith}
-use Rattle.protocol.proofs.Between.{LinkSound, link-new}
+use Rattle.protocol.proofs.Between.{LinkSound, link_new}
 use Rattle.protocol.proofs.Delivered.{series_keeps}
 use Rattle.protocol.proofs.Invariants.{packet, StoreSound}
-use Rattle.protocol.proofs.PdcpKept.{Held, lowest_stored, other-stored}
+use Rattle.protocol.proofs.PdcpKept.{Held, lowest_stored, other_stored}
 use Rattle.protocol.proofs.Strikes.{within_none, within_longer}
 use Rattle.protocol.specs.Airs.{Within, kept, struck}
 use Rattle.protocol.specs.Bytes.{Bytes}
@@ -15,11 +15,11 @@ use Rattle.std.proofs.lemmas.List.{append-nil, take_all, take-take, take-append-
 use Rattle.std.proofs.lemmas.Bool.{both_ways, cases_lt, cond-true, cond-false, lt-ltb, le-ltb, eqb-true, or_cases}
 
 -- a stored COUNT has its packet
-stored-packet : (acc : List Bytes) (low high : ℕ) (ss : List Stored) → StoreSound acc low high ss → (c : ℕ) → is_stored ss c ≡ true
+stored_packet : (acc : List Bytes) (low high : ℕ) (ss : List Stored) → StoreSound acc low high ss → (c : ℕ) → is_stored ss c ≡ true
     → Within (record { count = c; packet = packet acc c } ∷ []) ss
-stored-packet acc low high [] sound c e = absurd (both_ways false refl e)
-stored-packet acc low high (s ∷ ss) sound c e =
-    ⊎_elim here (λ later. struck s (stored-packet acc (s.count + 1) high ss sound.3 c later)) (or_cases (eqb s.count c) (is_stored ss c) e)
+stored_packet acc low high [] sound c e = absurd (both_ways false refl e)
+stored_packet acc low high (s ∷ ss) sound c e =
+    ⊎_elim here (λ later. struck s (stored_packet acc (s.count + 1) high ss sound.3 c later)) (or_cases (eqb s.count c) (is_stored ss c) e)
   where
     here : eqb s.count c ≡ true → Within (record { count = c; packet = packet acc c } ∷ []) (s ∷ ss)
     here h =
@@ -50,7 +50,7 @@ due_are acc low high deliv (s ∷ ss) sound from to all =
     some again lt =
         let first : s.count ≡ low = omega (arith, sound.0, lowest_stored acc [] false low high s ss sound low (all low (omega arith) lt)) in
         let next : StoreSound acc (low + 1) high ss = subst (λ n. StoreSound acc (n + 1) high ss) first sound.3 in
-        let rest = again next (omega arith) (λ c lo hi. other-stored acc [] false s ss c (omega (arith, first, lo)) (all c (omega arith) hi)) in
+        let rest = again next (omega arith) (λ c lo hi. other_stored acc [] false s ss c (omega (arith, first, lo)) (all c (omega arith) hi)) in
         let count : deliv - low ≡ suc (deliv - (low + 1)) = omega arith in
         let here : s.packet ≡ get_or acc low [] = sound.2 ∙ ap (packet acc) first in
         ap packets (cond-true _ _ _ (lt-ltb s.count deliv (omega (arith, first, lt))))
@@ -61,7 +61,7 @@ due_are acc low high deliv (s ∷ ss) sound from to all =
 
 module _ (s : Settings) (es : List Event) (lawful : Lawful s new_state es) where
   sound : LinkSound (accepted s es) (collected s es) (ran_out s new_state es) (end_of s new_state es)
-  sound = series_keeps s es [] [] false new_state link-new lawful
+  sound = series_keeps s es [] [] false new_state link_new lawful
 
   deliv : ℕ
   deliv = (link_after s es).pdcp.rx_deliv
@@ -97,7 +97,7 @@ module _ (s : Settings) (es : List Event) (lawful : Lawful s new_state es) where
         first_ones = λ in-time. passed_are in-time ∙ ap (λ n. take n (accepted s es)) (sym (passed_length in-time));
         none_lost = λ in-time c small acked.
             ⊎_elim (λ below. inl (omega (arith, below, passed_length in-time)))
-            (λ stored. inr (stored-packet (accepted s es) sound.pdcp_sound.low (link_after s es).pdcp.pdcp_rx_next (link_after s es).pdcp.store sound.pdcp_sound.store c stored))
+            (λ stored. inr (stored_packet (accepted s es) sound.pdcp_sound.low (link_after s es).pdcp.pdcp_rx_next (link_after s es).pdcp.store sound.pdcp_sound.store c stored))
             (held c acked);
       }
 
@@ -105,14 +105,14 @@ module _ (s : Settings) (es : List Event) (lawful : Lawful s new_state es) where
   finished : InTime s es → Finished s es → collected s es ≡ accepted s es
   finished in-time done_all =
       sym (append-nil (collected s es)) ∙ ap (λ ds. collected s es ++ ds) (sym done_all.1) ∙ passed_are in-time
-      ∙ take_all (link_after s es).pdcp.rx_deliv (accepted s es) all-below
+      ∙ take_all (link_after s es).pdcp.rx_deliv (accepted s es) all_below
     where
       not_held : Held (accepted s es) (collected s es) (ran_out s new_state es) (link_after s es).pdcp (link_after s es).pdcp.rx_deliv → ⊥
       not_held (inl h) = omega (arith, h)
       not_held (inr h) = both_ways _ sound.pdcp_sound.awaited h
 
-      all-below : length (accepted s es) ≤ (link_after s es).pdcp.rx_deliv
-      all-below =
+      all_below : length (accepted s es) ≤ (link_after s es).pdcp.rx_deliv
+      all_below =
           ⊎_elim (λ lt. absurd (not_held (held (link_after s es).pdcp.rx_deliv (done_all.0 (link_after s es).pdcp.rx_deliv lt)))) (λ ge. ge)
           (cases_lt (link_after s es).pdcp.rx_deliv (length (accepted s es)))
 

@@ -8,8 +8,8 @@ use Rattle.protocol.specs.Settings.{Settings}
 use Rattle.protocol.specs.Timers.{Timer, runs, running, stopped, stopped_if}
 use Rattle.protocol.proofs.Seeks.{update_same, update_other}
 use Rattle.rlc_rx.specs.Windows.{sdus_in, polls_in, past, far_in, Cleared}
-use Rattle.rlc_rx.proofs.Moves.{past-from, past_to, past_ordered, past_open, sdus-raised, sdus-same, polls-found}
-use Rattle.rlc_rx.proofs.Places.{window_seen, window_unseen, polls-answered}
+use Rattle.rlc_rx.proofs.Moves.{past_from, past_to, past_ordered, past_open, sdus_raised, sdus_same, polls_found}
+use Rattle.rlc_rx.proofs.Places.{window_seen, window_unseen, polls_answered}
 use Rattle.std.proofs.lemmas.Bool.{both_ways, cases_lt, leb-false, or_left}
 
 -- whether nothing below the trigger is missing
@@ -50,28 +50,28 @@ module _ (next high status trigger x : ℕ) (sdus : List far.Partial) (polls : L
   status' = past (sdus_in next (max high (x + 1)) sdus') (max high (x + 1)) x status
 
   pub status_grows : status ≤ status'
-  status_grows = past-from window high' x seen status
+  status_grows = past_from window high' x seen status
 
-  pub status-low : next ≤ status'
-  status-low = omega (arith, low, status_grows)
+  pub status_low : next ≤ status'
+  status_low = omega (arith, low, status_grows)
 
-  pub status-top : status' ≤ next + 16
-  status-top = omega (arith, past_to window high' x seen status (omega (arith, top)), near)
+  pub status_top : status' ≤ next + 16
+  status_top = omega (arith, past_to window high' x seen status (omega (arith, top)), near)
 
   ordered : next' ≤ status'
   ordered = past_ordered window high' x seen next status from low still_waits
 
   module _ (next'' high'' status'' trigger'' : ℕ) (next_is : next'' ≡ next') (high_is : high'' ≡ high') (status_is : status'' ≡ status') (trigger_is : trigger'' ≡ trigger) where
     -- what the far end's type keeps
-    pub waits-then : far.complete (sdus_in next'' high'' sdus' status'') ≡ false
-    waits-then =
+    pub waits_then : far.complete (sdus_in next'' high'' sdus' status'') ≡ false
+    waits_then =
         ap (λ n. far.complete (sdus_in n high'' sdus' status'')) next_is ∙ ap (λ h. far.complete (sdus_in next' h sdus' status'')) high_is
         ∙ ap (λ s. far.complete (sdus_in next' high' sdus' s)) status_is
-        ∙ ap far.complete (sdus-same next next' high' sdus' status' (past-from window high' x seen next) ordered) ∙ past_open window high' x seen status unseen still_waits
+        ∙ ap far.complete (sdus_same next next' high' sdus' status' (past_from window high' x seen next) ordered) ∙ past_open window high' x seen status unseen still_waits
 
-    pub triggered-then : (settles : Bool) (t'' : Timer) → settles ≡ settled next'' trigger'' (sdus_in next'' high'' sdus') → t'' ≡ stopped_if settles t → runs t'' ≡ true
+    pub triggered_then : (settles : Bool) (t'' : Timer) → settles ≡ settled next'' trigger'' (sdus_in next'' high'' sdus') → t'' ≡ stopped_if settles t → runs t'' ≡ true
         → next'' ≤ trigger''
-    triggered-then settles t'' s e runs_on = ⊎_elim (λ lt. absurd (never lt)) (λ le. le) (cases_lt trigger'' next'')
+    triggered_then settles t'' s e runs_on = ⊎_elim (λ lt. absurd (never lt)) (λ le. le) (cases_lt trigger'' next'')
       where
         never : trigger'' < next'' → ⊥
         never lt =
@@ -89,7 +89,7 @@ module _ (next high status trigger x : ℕ) (sdus : List far.Partial) (polls : L
     raised : sdus_in next'' high'' sdus' ≡ (λ y. cond (ltb y next') far.complete_sdu (window y))
     raised =
         ap (λ n. sdus_in n high'' sdus') next_is ∙ ap (λ h. sdus_in next' h sdus') high_is
-        ∙ sym (sdus-raised next next' high' sdus' (past-from window high' x seen next))
+        ∙ sym (sdus_raised next next' high' sdus' (past_from window high' x seen next))
 
     settled_is : settled next'' trigger'' (sdus_in next'' high'' sdus') ≡ settled next' trigger (λ y. cond (ltb y next') far.complete_sdu (window y))
     settled_is =
@@ -102,7 +102,7 @@ module _ (next high status trigger x : ℕ) (sdus : List far.Partial) (polls : L
     passed : (polls'' : List Bool) → Cleared false next status'' polls' polls'' → polls_in next'' high'' polls'' ≡ (λ y. not (ltb y status') && all y)
     passed polls'' m =
         ap (λ n. polls_in n high'' polls'') next_is ∙ ap (λ h. polls_in next' h polls'') high_is
-        ∙ polls-answered next next' status' high' polls' polls'' (past-from window high' x seen next) ordered (past_to window high' x seen status (omega (arith, top))) near
+        ∙ polls_answered next next' status' high' polls' polls'' (past_from window high' x seen next) ordered (past_to window high' x seen status (omega (arith, top))) near
         (subst (λ s. Cleared false next s polls' polls'') status_is m)
 
     -- the state after the steps, over the SDUs as they were kept
@@ -136,7 +136,7 @@ module _ (next high status trigger x : ℕ) (sdus : List far.Partial) (polls : L
         answered : answers ≡ ltb (seek all (status' - next) next) status'
         answered =
             q ∙ ap (λ z. ltb (seek (λ y. in_ring polls' y false) (z - next) next) z) status_is
-            ∙ polls-found next status' high' polls' status-low (past_to window high' x seen status (omega (arith, top)))
+            ∙ polls_found next status' high' polls' status_low (past_to window high' x seen status (omega (arith, top)))
 
         fields : far_in next'' high'' status'' trigger'' sdus' polls'' t'' r'' tp ≡ built window all
         fields =
@@ -153,8 +153,8 @@ module _ (next high status trigger x : ℕ) (sdus : List far.Partial) (polls : L
             }
 
 -- polls and t-Reassembly do not touch one another
-pub answering-awaited : (s : Settings) (low from : ℕ) (f : far.Far) → far.awaited s low (far.answering from f) ≡ far.answering from (far.awaited s low f)
-answering-awaited s low from f = go (not (runs f.t_reassembly) && (ltb (low + 1) f.rx_next_highest || (eqb f.rx_next_highest (low + 1) && far.has_hole (f.sdu low))))
+pub answering_awaited : (s : Settings) (low from : ℕ) (f : far.Far) → far.awaited s low (far.answering from f) ≡ far.answering from (far.awaited s low f)
+answering_awaited s low from f = go (not (runs f.t_reassembly) && (ltb (low + 1) f.rx_next_highest || (eqb f.rx_next_highest (low + 1) && far.has_hole (f.sdu low))))
   where
     go : (b : Bool)
         → cond b (far.with_reassembly (far.answering from f) f.rx_next_highest (running s.t_reassembly)) (far.answering from f)

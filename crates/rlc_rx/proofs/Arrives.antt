@@ -6,7 +6,7 @@ use Rattle.protocol.specs.Reading.{decode, amd_of, own_kind, offset_fault, heade
 use Rattle.protocol.specs.Receiving as far
 use Rattle.protocol.specs.Refusals.{at, unless}
 use Rattle.protocol.specs.Sending.{packet_limit}
-use Rattle.protocol.proofs.Formats.{amd-read}
+use Rattle.protocol.proofs.Formats.{amd_read}
 use Rattle.protocol.specs.Settings.{Settings}
 use Rattle.protocol.specs.declared.faults.End.TheVariants.{Far}
 use Rattle.protocol.specs.declared.faults.Fault.{Fault}
@@ -43,7 +43,7 @@ pub record Readable (a : Amd) : Type 0 where
 
 pub far_reads : (bytes : Bytes) (a : Amd) → decode Far bytes ≡ Ok (amd a) → Readable a
 far_reads bytes a e =
-    let r = amd-read bytes (amd a) e in
+    let r = amd_read bytes (amd a) e in
     let same : amd_of bytes ≡ a = let q = r.0 in cc in
     subst Readable same
     (record {
@@ -56,6 +56,6 @@ pub amd_is : (pdu : Pdu) (a : Amd) → Some a ≡ amd_in pdu → pdu ≡ amd a
 amd_is (amd b) a e = cc
 amd_is (status ack es) a e = absurd (let z : ◌≡◌ {A = ℕ} 0 1 = cc in omega arith)
 
-pub receives-takes : (s : Settings) (x : ℕ) (a : Amd) (f : far.Far) → far.discards f x a ≡ false → (far.clashes (f.sdu x) a || leb packet_limit x) ≡ false
+pub receives_takes : (s : Settings) (x : ℕ) (a : Amd) (f : far.Far) → far.discards f x a ≡ false → (far.clashes (f.sdu x) a || leb packet_limit x) ≡ false
     → far.receives s x a f ≡ Ok (far.reception (far.received a (f.sdu x)), far.taken s x a f)
-receives-takes s x a f d c = cond-false _ _ _ d ∙ cond-false _ _ _ c
+receives_takes s x a f d c = cond-false _ _ _ d ∙ cond-false _ _ _ c

@@ -5,21 +5,21 @@ use Rattle.protocol.specs.Settings.{Settings}
 use Rattle.protocol.specs.Timers.{Timer, running, stopped}
 use Rattle.rlc_rx.specs.Windows.{sdus_in, open_from, far_in, Cleared}
 use Rattle.rlc_rx.proofs.Moves.{open_low, open_high, open_open}
-use Rattle.rlc_rx.proofs.Places.{window_unseen, polls-answered}
+use Rattle.rlc_rx.proofs.Places.{window_unseen, polls_answered}
 
 module _ (next high trigger : ℕ) (sdus : List far.Partial) (from : next ≤ trigger) (to : trigger ≤ high) where
   abbrev status : ℕ
   status = open_from (sdus_in next high sdus) high trigger
 
-  pub reported-low : next ≤ status
-  reported-low = omega (arith, from, open_low (sdus_in next high sdus) high trigger to)
+  pub reported_low : next ≤ status
+  reported_low = omega (arith, from, open_low (sdus_in next high sdus) high trigger to)
 
-  pub reported-high : status ≤ high
-  reported-high = open_high (sdus_in next high sdus) high trigger to
+  pub reported_high : status ≤ high
+  reported_high = open_high (sdus_in next high sdus) high trigger to
 
   -- what is reported up to is not complete
-  pub reported-waits : far.complete (sdus_in next high sdus status) ≡ false
-  reported-waits =
+  pub reported_waits : far.complete (sdus_in next high sdus status) ≡ false
+  reported_waits =
       open_open (sdus_in next high sdus) high trigger to
       (ap far.complete (window_unseen far.complete_sdu far.nothing_held next high sdus high (omega (arith, from, to)) (omega arith)))
 
@@ -37,7 +37,7 @@ module _ (next high trigger : ℕ) (sdus : List far.Partial) (from : next ≤ tr
             rx_highest_status = status;
             rx_next_status_trigger = trigger;
             sdu = sdus_in next high sdus;
-            poll = polls-answered next next status high polls polls' (omega arith) reported-low reported-high window m k;
+            poll = polls_answered next next status high polls polls' (omega arith) reported_low reported_high window m k;
             t_reassembly = stopped;
             reporting = far.triggered r;
             t_status_prohibit = tp;

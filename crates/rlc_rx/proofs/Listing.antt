@@ -23,30 +23,30 @@ fill-append (e ∷ es) fs d b = go (add e d b).answer refl (fill-append es fs (a
     go (Ok u) t rest = rest
     go (Err f) t rest = sym (ap (λ r. then r (add e d b) (fill fs (add e d b).draft (add e d b).buffer)) t)
 
-pub fill-behind : (es fs : List Entry) (d d' : Draft) (b b' : Bytes) (r : Result (Unit {0}) Fault) → record { answer = r; draft = d'; buffer = b' } ≡ fill es d b
+pub fill_behind : (es fs : List Entry) (d d' : Draft) (b b' : Bytes) (r : Result (Unit {0}) Fault) → record { answer = r; draft = d'; buffer = b' } ≡ fill es d b
     → fill (es ++ fs) d b ≡ then r (record { answer = r; draft = d'; buffer = b' }) (fill fs d' b')
-fill-behind es fs d d' b b' r e = fill-append es fs d b ∙ ap (λ s. then s.answer s (fill fs s.draft s.buffer)) (sym e)
+fill_behind es fs d d' b b' r e = fill-append es fs d b ∙ ap (λ s. then s.answer s (fill fs s.draft s.buffer)) (sym e)
 
 -- the report on the counts from x on
-abbrev pub report-at : far.Far → (high x room : ℕ) → far.Report
-report-at f high x room = far.report_from f (high - x) x room
+abbrev pub report_at : far.Far → (high x room : ℕ) → far.Report
+report_at f high x room = far.report_from f (high - x) x room
 
 module _ (f : far.Far) (high x room : ℕ) (more : x < high) where
   next : high - x ≡ suc (high - (x + 1))
   next = omega (arith, more)
 
-  pub report-complete : far.complete (f.sdu x) ≡ true → report-at f high x room ≡ report-at f high (x + 1) room
-  report-complete c = ap (λ m. far.report_from f m x room) next ∙ cond-true _ _ _ c ∙ ap (λ y. far.report_from f (high - (x + 1)) y room) (omega arith)
+  pub report_complete : far.complete (f.sdu x) ≡ true → report_at f high x room ≡ report_at f high (x + 1) room
+  report_complete c = ap (λ m. far.report_from f m x room) next ∙ cond-true _ _ _ c ∙ ap (λ y. far.report_from f (high - (x + 1)) y room) (omega arith)
 
   pub report_stops : far.complete (f.sdu x) ≡ false → room < far.entries_length (far.sdu_entries x (f.sdu x))
-      → report-at f high x room ≡ record { ack = x; entries = [] }
+      → report_at f high x room ≡ record { ack = x; entries = [] }
   report_stops c lt = ap (λ m. far.report_from f m x room) next ∙ cond-false _ _ _ c ∙ cond-false _ _ _ (lt-leb _ room lt)
 
   pub report_lists : far.complete (f.sdu x) ≡ false → far.entries_length (far.sdu_entries x (f.sdu x)) ≤ room
-      → report-at f high x room ≡ far.behind (far.sdu_entries x (f.sdu x)) (report-at f high (x + 1) (room - far.entries_length (far.sdu_entries x (f.sdu x))))
+      → report_at f high x room ≡ far.behind (far.sdu_entries x (f.sdu x)) (report_at f high (x + 1) (room - far.entries_length (far.sdu_entries x (f.sdu x))))
   report_lists c le =
       ap (λ m. far.report_from f m x room) next ∙ cond-false _ _ _ c ∙ cond-true _ _ _ (le-leb _ room le)
       ∙ ap (λ y. far.behind (far.sdu_entries x (f.sdu x)) (far.report_from f (high - (x + 1)) y (room - far.entries_length (far.sdu_entries x (f.sdu x))))) (omega arith)
 
-pub report_over : (f : far.Far) (high x room : ℕ) → high ≤ x → report-at f high x room ≡ record { ack = x; entries = [] }
+pub report_over : (f : far.Far) (high x room : ℕ) → high ≤ x → report_at f high x room ≡ record { ack = x; entries = [] }
 report_over f high x room le = let none : high - x ≡ 0 = omega (arith, le) in ap (λ m. far.report_from f m x room) none

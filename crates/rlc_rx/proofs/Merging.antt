@@ -2,7 +2,7 @@
 use Rattle.std.proofs.Common.{◌≡◌, ℕ, zero, suc, ◌+◌, ◌-◌, ◌<◌, ◌≤◌, Bool, true, false, cond, not, ◌||◌, ltb, leb, ◌≢◌, ◌⊎◌, List, [], ◌∷◌, ◌++◌, length, get_or, take, drop, set, replicate, sym, refl, ap, ◌∙◌, inl, inr, ⊎_elim, arith}
 use Rattle.protocol.specs.Bytes.{Bytes, byte}
 use Rattle.rlc_rx.specs.Flags.{tally, is_held, NoneFrom, in_data, Merged}
-use Rattle.rlc_rx.proofs.Tallies.{tally-below, tally-set}
+use Rattle.rlc_rx.proofs.Tallies.{tally_below, tally-set}
 use Rattle.std.proofs.lemmas.List.{length-set, length-take-le, length-append, length-drop, length-replicate, get_or-set_same, get_or-set_other, get_or_append_left, get_or-append_right, get_or-take, get_or-drop, get_or-replicate, take-append-drop}
 use Rattle.std.proofs.lemmas.Bool.{cases_lt, cases_eq, cond-true, cond-false, lt-ltb, le-ltb, lt-leb, le-leb, or_left, not_from_false, or_from}
 
@@ -69,19 +69,19 @@ module _ (offset n : ℕ) (payload bytes bs : Bytes) (held hs : List Bool) (new 
   Writes bytes' i = byte bytes' i ≡ cond (is_held held i || not (in_data offset (n + 1) i)) (byte bytes i) (byte payload (i - offset))
 
   -- at the other places nothing changes
-  other-marked : (i : ℕ) → i ≢ offset + n → Marks hs i
-  other-marked i d = m.marked i ∙ ap (λ b. is_held held i || b) (sym (data_more offset n i d))
+  other_marked : (i : ℕ) → i ≢ offset + n → Marks hs i
+  other_marked i d = m.marked i ∙ ap (λ b. is_held held i || b) (sym (data_more offset n i d))
 
-  other-written : (i : ℕ) → i ≢ offset + n → Writes bs i
-  other-written i d = m.written i ∙ ap (λ b. cond (is_held held i || not b) (byte bytes i) (byte payload (i - offset))) (sym (data_more offset n i d))
+  other_written : (i : ℕ) → i ≢ offset + n → Writes bs i
+  other_written i d = m.written i ∙ ap (λ b. cond (is_held held i || not b) (byte bytes i) (byte payload (i - offset))) (sym (data_more offset n i d))
 
   -- a byte that is held stays
   pub merged_held : is_held hs (offset + n) ≡ true → Merged offset (n + 1) payload bytes bs held hs new
   merged_held h =
       record {
         sizes = m.sizes;
-        marked = λ i. ⊎_elim (λ e. here_marked i e) (other-marked i) (cases_eq i (offset + n));
-        written = λ i. ⊎_elim (λ e. here_written i e) (other-written i) (cases_eq i (offset + n));
+        marked = λ i. ⊎_elim (λ e. here_marked i e) (other_marked i) (cases_eq i (offset + n));
+        written = λ i. ⊎_elim (λ e. here_written i e) (other_written i) (cases_eq i (offset + n));
         counted = m.counted;
       }
     where
@@ -100,8 +100,8 @@ module _ (offset n : ℕ) (payload bytes bs : Bytes) (held hs : List Bool) (new 
   merged_new room same h =
       record {
         sizes = (length-set bs (offset + n) (byte payload n) ∙ m.sizes.0, length-set hs (offset + n) true ∙ m.sizes.1);
-        marked = λ i. ⊎_elim (λ e. here_marked i e) (λ d. get_or-set_other hs (offset + n) i true false d ∙ other-marked i d) (cases_eq i (offset + n));
-        written = λ i. ⊎_elim (λ e. here_written i e) (λ d. get_or-set_other bs (offset + n) i (byte payload n) 0 d ∙ other-written i d) (cases_eq i (offset + n));
+        marked = λ i. ⊎_elim (λ e. here_marked i e) (λ d. get_or-set_other hs (offset + n) i true false d ∙ other_marked i d) (cases_eq i (offset + n));
+        written = λ i. ⊎_elim (λ e. here_written i e) (λ d. get_or-set_other bs (offset + n) i (byte payload n) 0 d ∙ other_written i d) (cases_eq i (offset + n));
         counted = omega (arith, tally-set hs (offset + n) fits_flags h, m.counted);
       }
     where
@@ -133,13 +133,13 @@ pub tally-append : (xs ys : List Bool) → tally (xs ++ ys) ≡ tally xs + tally
 tally-append [] ys = omega arith
 tally-append (x ∷ xs) ys = omega (arith, tally-append xs ys)
 
-tally-set-all : (n : ℕ) → tally (replicate n true) ≡ n
-tally-set-all zero = refl
-tally-set-all (suc n) = omega (arith, tally-set-all n)
+tally-set_all : (n : ℕ) → tally (replicate n true) ≡ n
+tally-set_all zero = refl
+tally-set_all (suc n) = omega (arith, tally-set_all n)
 
 none_dropped : (a : ℕ) (flags : List Bool) → NoneFrom a flags → tally (drop a flags) ≡ 0
 none_dropped a flags none =
-    let low = tally-below 0 (drop a flags) (λ i le. get_or-drop a flags i false ∙ none (a + i) (omega arith)) in
+    let low = tally_below 0 (drop a flags) (λ i le. get_or-drop a flags i false ∙ none (a + i) (omega arith)) in
     omega (arith, low)
 
 -- a list with ys in place of what stood from a on
@@ -150,22 +150,22 @@ module _ {A : Type 0} (a n : ℕ) (xs ys : List A) (d : A) (size : length ys ≡
   front : length (take a xs) ≡ a
   front = length-take-le a xs (omega (arith, room))
 
-  pub put-below : (i : ℕ) → i < a → get_or zs i d ≡ get_or xs i d
-  put-below i lt = get_or_append_left (take a xs) _ d i (omega (arith, front, lt)) ∙ get_or-take a xs i d lt
+  pub put_below : (i : ℕ) → i < a → get_or zs i d ≡ get_or xs i d
+  put_below i lt = get_or_append_left (take a xs) _ d i (omega (arith, front, lt)) ∙ get_or-take a xs i d lt
 
   past : (i : ℕ) → a ≤ i → get_or zs i d ≡ get_or (ys ++ drop (a + n) xs) (i - a) d
   past i ge = get_or-append_right (take a xs) (ys ++ drop (a + n) xs) a i d front ge
 
-  pub put-inside : (i : ℕ) → a ≤ i → i < a + n → get_or zs i d ≡ get_or ys (i - a) d
-  put-inside i ge lt = past i ge ∙ get_or_append_left ys (drop (a + n) xs) d (i - a) (omega (arith, lt, size, ge))
+  pub put_inside : (i : ℕ) → a ≤ i → i < a + n → get_or zs i d ≡ get_or ys (i - a) d
+  put_inside i ge lt = past i ge ∙ get_or_append_left ys (drop (a + n) xs) d (i - a) (omega (arith, lt, size, ge))
 
-  pub put-above : (i : ℕ) → a + n ≤ i → get_or zs i d ≡ get_or xs i d
-  put-above i ge =
+  pub put_above : (i : ℕ) → a + n ≤ i → get_or zs i d ≡ get_or xs i d
+  put_above i ge =
       past i (omega (arith, ge)) ∙ get_or-append_right ys (drop (a + n) xs) n (i - a) d size (omega (arith, ge))
       ∙ get_or-drop (a + n) xs (i - a - n) d ∙ ap (λ j. get_or xs j d) (omega (arith, ge))
 
-  pub put-size : length zs ≡ length xs
-  put-size =
+  pub put_size : length zs ≡ length xs
+  put_size =
       omega (arith, length-append (take a xs) (ys ++ drop (a + n) xs), length-append ys (drop (a + n) xs), front, size, length-drop (a + n) xs, room)
 
 pub merged_all : (offset : ℕ) (payload bytes : Bytes) (held : List Bool) → offset + length payload ≤ length bytes → length held ≡ length bytes
@@ -174,15 +174,15 @@ pub merged_all : (offset : ℕ) (payload bytes : Bytes) (held : List Bool) → o
     (take offset held ++ (replicate (length payload) true ++ drop (offset + length payload) held)) (length payload)
 merged_all offset payload bytes held room same none =
     record {
-      sizes = (put-size offset n bytes payload 0 refl room, put-size offset n held (replicate n true) false all_set room');
-      marked = λ i. ⊎_elim (λ lt. low-marked i lt) (λ ge. ⊎_elim (λ lt. in_marked i ge lt) (λ le. high-marked i le) (cases_lt i (offset + n))) (cases_lt i offset);
-      written = λ i. ⊎_elim (λ lt. low-written i lt) (λ ge. ⊎_elim (λ lt. in_written i ge lt) (λ le. high-written i le) (cases_lt i (offset + n))) (cases_lt i offset);
+      sizes = (put_size offset n bytes payload 0 refl room, put_size offset n held (replicate n true) false all_set room');
+      marked = λ i. ⊎_elim (λ lt. low_marked i lt) (λ ge. ⊎_elim (λ lt. in_marked i ge lt) (λ le. high_marked i le) (cases_lt i (offset + n))) (cases_lt i offset);
+      written = λ i. ⊎_elim (λ lt. low_written i lt) (λ ge. ⊎_elim (λ lt. in_written i ge lt) (λ le. high_written i le) (cases_lt i (offset + n))) (cases_lt i offset);
       counted =
           omega (
             arith,
             tally-append (take offset held) (replicate n true ++ drop (offset + n) held),
             tally-append (replicate n true) (drop (offset + n) held),
-            tally-set-all n,
+            tally-set_all n,
             none_dropped (offset + n) held (λ i le. none i (omega (arith, le))),
             none_dropped offset held none,
             tally-append (take offset held) (drop offset held),
@@ -212,25 +212,25 @@ merged_all offset payload bytes held room same none =
         go true = refl
         go false = ap not e
 
-    low-marked : (i : ℕ) → i < offset → is_held held' i ≡ (is_held held i || in_data offset n i)
-    low-marked i lt = put-below offset n held (replicate n true) false all_set room' i lt ∙ sym (or_nothing _ _ (data_outside offset n i (inl lt)))
+    low_marked : (i : ℕ) → i < offset → is_held held' i ≡ (is_held held i || in_data offset n i)
+    low_marked i lt = put_below offset n held (replicate n true) false all_set room' i lt ∙ sym (or_nothing _ _ (data_outside offset n i (inl lt)))
 
-    high-marked : (i : ℕ) → offset + n ≤ i → is_held held' i ≡ (is_held held i || in_data offset n i)
-    high-marked i ge = put-above offset n held (replicate n true) false all_set room' i ge ∙ sym (or_nothing _ _ (data_outside offset n i (inr ge)))
+    high_marked : (i : ℕ) → offset + n ≤ i → is_held held' i ≡ (is_held held i || in_data offset n i)
+    high_marked i ge = put_above offset n held (replicate n true) false all_set room' i ge ∙ sym (or_nothing _ _ (data_outside offset n i (inr ge)))
 
     in_marked : (i : ℕ) → offset ≤ i → i < offset + n → is_held held' i ≡ (is_held held i || in_data offset n i)
     in_marked i ge lt =
-        put-inside offset n held (replicate n true) false all_set room' i ge lt ∙ get_or-replicate n (i - offset) true false (omega (arith, ge, lt))
+        put_inside offset n held (replicate n true) false all_set room' i ge lt ∙ get_or-replicate n (i - offset) true false (omega (arith, ge, lt))
         ∙ sym (ap (λ b. b || in_data offset n i) (none i ge) ∙ data_inside offset n i ge lt)
 
-    low-written : (i : ℕ) → i < offset → byte bytes' i ≡ cond (is_held held i || not (in_data offset n i)) (byte bytes i) (byte payload (i - offset))
-    low-written i lt = put-below offset n bytes payload 0 refl room i lt ∙ sym (cond-true _ _ _ (stays i (data_outside offset n i (inl lt))))
+    low_written : (i : ℕ) → i < offset → byte bytes' i ≡ cond (is_held held i || not (in_data offset n i)) (byte bytes i) (byte payload (i - offset))
+    low_written i lt = put_below offset n bytes payload 0 refl room i lt ∙ sym (cond-true _ _ _ (stays i (data_outside offset n i (inl lt))))
 
-    high-written : (i : ℕ) → offset + n ≤ i → byte bytes' i ≡ cond (is_held held i || not (in_data offset n i)) (byte bytes i) (byte payload (i - offset))
-    high-written i ge = put-above offset n bytes payload 0 refl room i ge ∙ sym (cond-true _ _ _ (stays i (data_outside offset n i (inr ge))))
+    high_written : (i : ℕ) → offset + n ≤ i → byte bytes' i ≡ cond (is_held held i || not (in_data offset n i)) (byte bytes i) (byte payload (i - offset))
+    high_written i ge = put_above offset n bytes payload 0 refl room i ge ∙ sym (cond-true _ _ _ (stays i (data_outside offset n i (inr ge))))
 
     in_written : (i : ℕ) → offset ≤ i → i < offset + n
         → byte bytes' i ≡ cond (is_held held i || not (in_data offset n i)) (byte bytes i) (byte payload (i - offset))
     in_written i ge lt =
-        put-inside offset n bytes payload 0 refl room i ge lt
+        put_inside offset n bytes payload 0 refl room i ge lt
         ∙ sym (cond-false _ _ _ (ap (λ b. b || not (in_data offset n i)) (none i ge) ∙ ap not (data_inside offset n i ge lt)))

@@ -3,7 +3,7 @@ use Rattle.std.proofs.Common.{◌≡◌, ℕ, ◌-◌, ◌%◌, ◌<◌, ◌≤�
 use Rattle.protocol.specs.Receiving as far
 use Rattle.protocol.specs.Rings.{in_ring}
 use Rattle.protocol.specs.Searching.{seek}
-use Rattle.protocol.proofs.Seeks.{seek-from, seek_to, seek_found, seek_least}
+use Rattle.protocol.proofs.Seeks.{seek_from, seek_to, seek_found, seek_least}
 use Rattle.rlc_rx.specs.Windows.{sdus_in, polls_in, open_from, past}
 use Rattle.rlc_rx.proofs.Places.{ring_read, window_seen}
 use Rattle.rlc_rx.proofs.Seeking.{seek_range}
@@ -18,7 +18,7 @@ open_is next high x ring from =
 
 module _ (sdus : ℕ → far.Partial) (high x : ℕ) (seen : x ≤ high) where
   pub open_low : x ≤ open_from sdus high x
-  open_low = seek-from (λ y. not (far.complete (sdus y))) (high - x) x
+  open_low = seek_from (λ y. not (far.complete (sdus y))) (high - x) x
 
   pub open_high : open_from sdus high x ≤ high
   open_high = omega (arith, seek_to (λ y. not (far.complete (sdus y))) (high - x) x, seen)
@@ -43,8 +43,8 @@ module _ (sdus : ℕ → far.Partial) (high x : ℕ) (seen : x ≤ high) where
       go true c false e = stays (λ d s. eqb-false variable x e s)
       go false c at e = stays (λ d. absurd (both_ways _ c d))
 
-  pub past-from : (variable : ℕ) → variable ≤ past sdus high x variable
-  past-from variable = by_past variable (λ v. variable ≤ v) (λ c e. omega (arith, e, open_low)) (λ h. omega arith)
+  pub past_from : (variable : ℕ) → variable ≤ past sdus high x variable
+  past_from variable = by_past variable (λ v. variable ≤ v) (λ c e. omega (arith, e, open_low)) (λ h. omega arith)
 
   pub past_to : (variable : ℕ) → variable ≤ high → past sdus high x variable ≤ high
   past_to variable le = by_past variable (λ v. v ≤ high) (λ c e. open_high) (λ h. le)
@@ -56,7 +56,7 @@ module _ (sdus : ℕ → far.Partial) (high x : ℕ) (seen : x ≤ high) where
       by_past next (λ v. v ≤ past sdus high x status)
       (λ c e. by_past status (λ w. open_from sdus high x ≤ w) (λ d s. omega arith)
       (λ h. seek_least (λ y. not (far.complete (sdus y))) (high - x) x status (omega (arith, e, le)) (not_from_false _ (waits (h c)))))
-      (λ h. omega (arith, le, past-from status))
+      (λ h. omega (arith, le, past_from status))
 
   pub past_open : (status : ℕ) → far.complete (sdus high) ≡ false → (status ≢ x → far.complete (sdus status) ≡ false)
       → far.complete (sdus (past sdus high x status)) ≡ false
@@ -82,21 +82,21 @@ seen_slot f slots next high x d size from to =
 
 -- the window that begins later ---------------------------------------------------------------------------------------------
 
-pub sdus-raised : (next next' high : ℕ) (ring : List far.Partial) → next ≤ next'
+pub sdus_raised : (next next' high : ℕ) (ring : List far.Partial) → next ≤ next'
     → ◌≡◌ {A = ℕ → far.Partial} (λ y. cond (ltb y next') far.complete_sdu (sdus_in next high ring y)) (sdus_in next' high ring)
-sdus-raised next next' high ring le = λ k y. at y (cases_lt y next') k
+sdus_raised next next' high ring le = λ k y. at y (cases_lt y next') k
   where
     at : (y : ℕ) → (y < next') ⊎ (next' ≤ y) → cond (ltb y next') far.complete_sdu (sdus_in next high ring y) ≡ sdus_in next' high ring y
     at y = ⊎_elim (λ lt. cond-true _ _ _ (lt-ltb y next' lt) ∙ sym (cond-true _ _ _ (lt-ltb y next' lt)))
         (λ ge. ap (cond (ltb y next') far.complete_sdu) (cond-false _ _ _ (le-ltb y next (omega (arith, ge, le)))))
 
 -- from the later beginning on, nothing differs
-pub sdus-same : (next next' high : ℕ) (ring : List far.Partial) (y : ℕ) → next ≤ next' → next' ≤ y → sdus_in next' high ring y ≡ sdus_in next high ring y
-sdus-same next next' high ring y le from = cond-false _ _ _ (le-ltb y next' from) ∙ sym (cond-false _ _ _ (le-ltb y next (omega (arith, le, from))))
+pub sdus_same : (next next' high : ℕ) (ring : List far.Partial) (y : ℕ) → next ≤ next' → next' ≤ y → sdus_in next' high ring y ≡ sdus_in next high ring y
+sdus_same next next' high ring y le from = cond-false _ _ _ (le-ltb y next' from) ∙ sym (cond-false _ _ _ (le-ltb y next (omega (arith, le, from))))
 
 -- the polls of the ring are those of the window
-pub polls-found : (next status high : ℕ) (ring : List Bool) → next ≤ status → status ≤ high
+pub polls_found : (next status high : ℕ) (ring : List Bool) → next ≤ status → status ≤ high
     → ltb (seek (λ y. in_ring ring y false) (status - next) next) status ≡ ltb (seek (polls_in next high ring) (status - next) next) status
-polls-found next status high ring low top =
+polls_found next status high ring low top =
     ap (λ k. ltb k status)
     (seek_range _ _ (status - next) next (λ j lo hi. sym (window_seen false false next high ring j lo (omega (arith, lo, hi, low, top)))))

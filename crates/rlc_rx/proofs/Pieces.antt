@@ -4,17 +4,17 @@ use Rattle.protocol.specs.Bytes.{Bytes, byte}
 use Rattle.protocol.specs.Pdus.{Amd}
 use Rattle.protocol.specs.Receiving as far
 use Rattle.rlc_rx.specs.Flags.{tally, is_held, NoneFrom, EndsAt, bounds, in_data, Merged}
-use Rattle.protocol.proofs.Seeks.{seek-before}
+use Rattle.protocol.proofs.Seeks.{seek_before}
 use Rattle.rlc_rx.specs.Receptions.{handed}
 use Rattle.rlc_rx.specs.Slots.{partial}
 use Rattle.rlc_rx.proofs.Merging.{data_outside, data_inside}
 use Rattle.rlc_rx.proofs.Seeking.{seek_none}
-use Rattle.rlc_rx.proofs.Tallies.{tally-below, holds_is, held_beyond, bounds_end}
+use Rattle.rlc_rx.proofs.Tallies.{tally_below, holds_is, held_beyond, bounds_end}
 use Rattle.std.proofs.lemmas.List.{get_or_past}
 use Rattle.std.proofs.lemmas.Bool.{both_ways, cases_lt, ltb-false, le-leb, and_from, or_left, or_right, or_from, or_parts, not-false, cond-true, eqb-true, and_right, le-ltb, lt-leb}
 
-pub tally-short : (flags : List Bool) → tally flags ≤ length flags
-tally-short flags = tally-below (length flags) flags (λ i le. get_or_past flags i false le)
+pub tally_short : (flags : List Bool) → tally flags ≤ length flags
+tally_short flags = tally_below (length flags) flags (λ i le. get_or_past flags i false le)
 
 module _ (a : Amd) (bytes bs : Bytes) (held hs : List Bool) (new top : ℕ) (known : Option ℕ)
     (m : Merged (far.offset a.segment) (length a.payload) a.payload bytes bs held hs new) where
@@ -40,21 +40,21 @@ module _ (a : Amd) (bytes bs : Bytes) (held hs : List Bool) (new top : ℕ) (kno
   place false true old fresh = refl
   place false false old fresh = refl
 
-  received-at : (i : ℕ) → cond {A = Option ℕ} (is_held hs i) (Some (get_or bs i 0)) None ≡ (far.received a (partial held bytes known)).held i
-  received-at i =
+  received_at : (i : ℕ) → cond {A = Option ℕ} (is_held hs i) (Some (get_or bs i 0)) None ≡ (far.received a (partial held bytes known)).held i
+  received_at i =
       ap (λ b. cond {A = Option ℕ} b (Some (get_or bs i 0)) None) (m.marked i)
       ∙ ap (λ v. cond {A = Option ℕ} (is_held held i || in_data (far.offset a.segment) (length a.payload) i) (Some v) None) (m.written i)
       ∙ place (is_held held i) (ltb i (far.offset a.segment) || leb (far.data_end a) i) (byte bytes i) (byte a.payload (i - far.offset a.segment))
 
   pub received_is : (end : Option ℕ) → end ≡ cond (far.marks_end a.segment) (Some (far.data_end a)) known
       → partial hs bs end ≡ far.received a (partial held bytes known)
-  received_is end e = λ k. record { held = λ i. received-at i k; known_end = e k }
+  received_is end e = λ k. record { held = λ i. received_at i k; known_end = e k }
 
 -- the end that is known then, against what is held
-pub bounds-after : (a : Amd) (bytes : Bytes) (held : List Bool) (top : ℕ) (known : Option ℕ) → top ≤ 502 → NoneFrom top held → EndsAt top held
+pub bounds_after : (a : Amd) (bytes : Bytes) (held : List Bool) (top : ℕ) (known : Option ℕ) → top ≤ 502 → NoneFrom top held → EndsAt top held
     → bounds known top ≡ true → far.data_end a ≤ 502 → far.clashes (partial held bytes known) a ≡ false
     → bounds (cond (far.marks_end a.segment) (Some (far.data_end a)) known) (max top (far.data_end a)) ≡ true
-bounds-after a bytes held top known short beyond last bounded room fits = go (far.marks_end a.segment) refl
+bounds_after a bytes held top known short beyond last bounded room fits = go (far.marks_end a.segment) refl
   where
     parts : (far.clashes_with known (far.data_end a) (far.marks_end a.segment) ≡ false)
         × ((far.marks_end a.segment && ltb (far.held_from (partial held bytes known) (502 - far.data_end a) (far.data_end a)) 502) ≡ false)
@@ -80,12 +80,12 @@ bounds-after a bytes held top known short beyond last bounded room fits = go (fa
 -- a complete SDU's bytes are the first ones of its slot ---------------------------------------------------------------------
 
 module _ (flags : List Bool) (bytes : Bytes) (end : Option ℕ) where
-  bytes-held : (n i : ℕ) → ((k : ℕ) → i ≤ k → k < i + n → is_held flags k ≡ true) → i + n ≤ length bytes
+  bytes_held : (n i : ℕ) → ((k : ℕ) → i ≤ k → k < i + n → is_held flags k ≡ true) → i + n ≤ length bytes
       → far.bytes_from (partial flags bytes end) n i ≡ take n (drop i bytes)
-  bytes-held zero i all room = refl
-  bytes-held (suc n) i all room =
+  bytes_held zero i all room = refl
+  bytes_held (suc n) i all room =
       ap (λ o. far.byte_of o ∷ far.bytes_from (partial flags bytes end) n (suc i)) (cond-true (is_held flags i) (Some (get_or bytes i 0)) None (all i (omega arith) (omega arith)))
-      ∙ ap (λ bs. get_or bytes i 0 ∷ bs) (bytes-held n (suc i) (λ k lo hi. all k (omega (arith, lo)) (omega (arith, hi))) (omega (arith, room)))
+      ∙ ap (λ bs. get_or bytes i 0 ∷ bs) (bytes_held n (suc i) (λ k lo hi. all k (omega (arith, lo)) (omega (arith, hi))) (omega (arith, room)))
       ∙ sym (ap (take (suc n)) (drop-cons bytes i 0 (omega (arith, room))))
 
   pub handed_is : (top : ℕ) → length bytes ≡ 502 → bounds end top ≡ true → far.complete (partial flags bytes end) ≡ true
@@ -97,8 +97,8 @@ module _ (flags : List Bool) (bytes : Bytes) (end : Option ℕ) where
       by_end (Some n) e =
           let reached : far.missing_from (partial flags bytes end) n 0 ≡ n = eqb-true _ n (sym (ap (far.complete_to (partial flags bytes end)) e) ∙ done) in
           let all : (k : ℕ) → 0 ≤ k → k < 0 + n → is_held flags k ≡ true =
-          λ k lo hi. sym (holds_is flags bytes end k) ∙ not-false _ (seek-before (λ j. not (far.holds (partial flags bytes end) j)) n 0 k lo (omega (arith, hi, reached))) in
-          ap (λ o. handed o bytes) e ∙ ap far.whole_sdu (sym (bytes-held n 0 all (omega (arith, room, (bounds_end end top n bounded e).1))))
+          λ k lo hi. sym (holds_is flags bytes end k) ∙ not-false _ (seek_before (λ j. not (far.holds (partial flags bytes end) j)) n 0 k lo (omega (arith, hi, reached))) in
+          ap (λ o. handed o bytes) e ∙ ap far.whole_sdu (sym (bytes_held n 0 all (omega (arith, room, (bounds_end end top n bounded e).1))))
           ∙ sym (ap (λ o. far.whole_sdu (far.bytes_to (partial flags bytes end) o)) e)
 
   pub end_found : (top : ℕ) → bounds end top ≡ true → IfSome end (λ n. n ≤ 502)

@@ -116,10 +116,10 @@ window_now below none next high x ring ring' a size window from to m =
         (λ le. cond-false _ _ _ (le-ltb y next le))
 
 -- the answered polls are those of the definition, once RX_Next and RX_Highest_Status have moved
-pub polls-answered : (next next' status high : ℕ) (ring ring' : List Bool) → next ≤ next' → next' ≤ status → status ≤ high → high ≤ next + 16
+pub polls_answered : (next next' status high : ℕ) (ring ring' : List Bool) → next ≤ next' → next' ≤ status → status ≤ high → high ≤ next + 16
     → Cleared false next status ring ring'
     → polls_in next' high ring' ≡ (λ y. not (ltb y status) && polls_in next high ring y)
-polls-answered next next' status high ring ring' from low top window m = λ k y. at y (cases_lt y status) k
+polls_answered next next' status high ring ring' from low top window m = λ k y. at y (cases_lt y status) k
   where
     at : (y : ℕ) → (y < status) ⊎ (status ≤ y) → polls_in next' high ring' y ≡ (not (ltb y status) && polls_in next high ring y)
     at y = ⊎_elim answered waiting

@@ -2,13 +2,13 @@
 use Rattle.std.proofs.Common.{◌≡◌, ℕ, zero, suc, ◌+◌, ◌-◌, ◌<◌, ◌≤◌, Bool, true, false, cond, not, ◌||◌, ltb, List, sym, refl, ap, ◌∙◌, ⊎_elim, arith}
 use mathlib.Core.Bool.{beq}
 use Rattle.protocol.specs.Searching.{seek}
-use Rattle.protocol.proofs.Seeks.{seek-from, seek_found, seek-before, seek_least}
+use Rattle.protocol.proofs.Seeks.{seek_from, seek_found, seek_before, seek_least}
 use Rattle.rlc_rx.specs.Flags.{is_held, wears}
 use Rattle.std.proofs.lemmas.Bool.{both_ways, cases_lt, cases_eq, cond-true, cond-false, lt-ltb, le-ltb, or_left, or_right, or_from}
 
 -- tests that agree find the same
-pub seek-same : (s t : ℕ → Bool) → ((j : ℕ) → s j ≡ t j) → (n i : ℕ) → seek s n i ≡ seek t n i
-seek-same s t e n i = ap (λ test. seek test n i) (λ k j. e j k)
+pub seek_same : (s t : ℕ → Bool) → ((j : ℕ) → s j ≡ t j) → (n i : ℕ) → seek s n i ≡ seek t n i
+seek_same s t e n i = ap (λ test. seek test n i) (λ k j. e j k)
 
 pub seek_here : (test : ℕ → Bool) (to i : ℕ) → i < to → test i ≡ true → seek test (to - i) i ≡ i
 seek_here test to i lt e =
@@ -49,13 +49,13 @@ seek_none test none zero i = omega arith
 seek_none test none (suc n) i = cond-false _ _ _ (none i) ∙ seek_none test none n (suc i) ∙ omega arith
 
 -- whether one is found, one number further
-pub seek-more : (test : ℕ → Bool) (from x : ℕ) → from ≤ x → ltb (seek test (x + 1 - from) from) (x + 1) ≡ (ltb (seek test (x - from) from) x || test x)
-seek-more test from x le = ⊎_elim found none (cases_lt (seek test (x - from) from) x)
+pub seek_more : (test : ℕ → Bool) (from x : ℕ) → from ≤ x → ltb (seek test (x + 1 - from) from) (x + 1) ≡ (ltb (seek test (x - from) from) x || test x)
+seek_more test from x le = ⊎_elim found none (cases_lt (seek test (x - from) from) x)
   where
     found : seek test (x - from) from < x → ltb (seek test (x + 1 - from) from) (x + 1) ≡ (ltb (seek test (x - from) from) x || test x)
     found lt =
         let hit = seek_found test (x - from) from (omega (arith, lt, le)) in
-        let least = seek_least test (x + 1 - from) from (seek test (x - from) from) (seek-from test (x - from) from) hit in
+        let least = seek_least test (x + 1 - from) from (seek test (x - from) from) (seek_from test (x - from) from) hit in
         lt-ltb _ _ (omega (arith, lt, least)) ∙ sym (or_left _ _ (lt-ltb _ _ lt))
 
     none : x ≤ seek test (x - from) from → ltb (seek test (x + 1 - from) from) (x + 1) ≡ (ltb (seek test (x - from) from) x || test x)
@@ -69,5 +69,5 @@ seek-more test from x le = ⊎_elim found none (cases_lt (seek test (x - from) f
             never lt =
                 let hit = seek_found test (x + 1 - from) from (omega (arith, lt, le)) in
                 ⊎_elim (λ s. both_ways _ (ap test s ∙ e) hit)
-                (λ d. both_ways _ (seek-before test (x - from) from (seek test (x + 1 - from) from) (seek-from test (x + 1 - from) from) (omega (arith, lt, d, ge))) hit)
+                (λ d. both_ways _ (seek_before test (x - from) from (seek test (x + 1 - from) from) (seek_from test (x + 1 - from) from) (omega (arith, lt, d, ge))) hit)
                 (cases_eq (seek test (x + 1 - from) from) x)

@@ -5,7 +5,7 @@ use Rattle.protocol.specs.Drafts.{Draft, Step, add, then, fill}
 use Rattle.protocol.specs.Pdus.{Entry, every}
 use Rattle.protocol.specs.declared.faults.Fault.{Fault}
 use Rattle.protocol.specs.Receiving as far
-use Rattle.protocol.proofs.Seeks.{seek-from, seek_to, seek_found}
+use Rattle.protocol.proofs.Seeks.{seek_from, seek_to, seek_found}
 use Rattle.protocol.proofs.Reports.{limit_is}
 use Rattle.rlc_rx.proofs.Tallies.{held_beyond, bounds_end}
 use Rattle.rlc_rx.specs.Slots.{partial_of}
@@ -20,12 +20,12 @@ module _ (p : far.Partial) where
   gap_longer lim i l = ⊎_elim (λ h. h) (λ h. absurd (empty h)) (cases_lt (far.missing_from p (lim - i) i) _)
     where
       missing : far.holds p (far.missing_from p (lim - i) i) ≡ false
-      missing = not-true _ (seek_found (λ j. not (far.holds p j)) (lim - i) i (omega (arith, l, seek-from (λ j. not (far.holds p j)) (lim - i) i)))
+      missing = not-true _ (seek_found (λ j. not (far.holds p j)) (lim - i) i (omega (arith, l, seek_from (λ j. not (far.holds p j)) (lim - i) i)))
 
       empty : far.held_from p (lim - far.missing_from p (lim - i) i) (far.missing_from p (lim - i) i) ≤ far.missing_from p (lim - i) i → ⊥
       empty h =
           let same : far.held_from p (lim - far.missing_from p (lim - i) i) (far.missing_from p (lim - i) i) ≡ far.missing_from p (lim - i) i =
-          omega (arith, h, seek-from (far.holds p) (lim - far.missing_from p (lim - i) i) (far.missing_from p (lim - i) i)) in
+          omega (arith, h, seek_from (far.holds p) (lim - far.missing_from p (lim - i) i) (far.missing_from p (lim - i) i)) in
           both_ways _ missing
           (sym (ap (far.holds p) same) ∙ seek_found (far.holds p) (lim - far.missing_from p (lim - i) i) (far.missing_from p (lim - i) i) (omega (arith, h, l)))
 
@@ -65,7 +65,7 @@ module _ (p : far.Partial) where
           let stop_is : far.gap_stop p i ≡ g.stop = cc in
           let l = ltb-true _ _ t in
           let long = gap_longer (far.limit p) i l in
-          let from = seek-from (λ j. not (far.holds p j)) (far.limit p - i) i in
+          let from = seek_from (λ j. not (far.holds p j)) (far.limit p - i) i in
           record {
             stops = omega (arith, stop_is, gap_inside i l);
             further = λ lt. omega (arith, stop_is, long, from);
@@ -120,8 +120,8 @@ module _ (p : far.Partial) where
             ∙ sym (ap (gaps_on p x (fuel - 1)) (cond-false _ _ _ (ne_eqb stop (far.limit p) d)))
 
     -- what is behind lies further on
-    behind-ahead : (g : Stretch) → gap_behind p stop ≡ Some g → (stop < g.stop) × (g.stop ≤ far.limit p) × (far.limit p ≤ g.stop + (fuel - 1)) × (1 ≤ fuel)
-    behind-ahead g e = ⊎_elim at_end before (cases_eq stop (far.limit p))
+    behind_ahead : (g : Stretch) → gap_behind p stop ≡ Some g → (stop < g.stop) × (g.stop ≤ far.limit p) × (far.limit p ≤ g.stop + (fuel - 1)) × (1 ≤ fuel)
+    behind_ahead g e = ⊎_elim at_end before (cases_eq stop (far.limit p))
       where
         at_end : stop ≡ far.limit p → (stop < g.stop) × (g.stop ≤ far.limit p) × (far.limit p ≤ g.stop + (fuel - 1)) × (1 ≤ fuel)
         at_end s = let none = sym (cond-true {A = Option Stretch} _ None (gap_at p stop) (eq-eqb stop (far.limit p) s)) ∙ e in absurd (let z : ◌≡◌ {A = ℕ} 0 1 = cc in omega arith)
@@ -137,21 +137,21 @@ module _ (p : far.Partial) where
       where
         go : (o : Option Stretch) → gap_behind p stop ≡ o → Lasts (fuel - 1) o
         go None e = tt
-        go (Some g) e = ((behind-ahead g e).1, (behind-ahead g e).2)
+        go (Some g) e = ((behind_ahead g e).1, (behind_ahead g e).2)
 
     pub few_behind : (length : ℕ) → length + 6 * fuel ≤ 3006 → Few (length + 6) (fuel - 1) (gap_behind p stop)
     few_behind length few = go (gap_behind p stop) refl
       where
         go : (o : Option Stretch) → gap_behind p stop ≡ o → Few (length + 6) (fuel - 1) o
         go None e = tt
-        go (Some g) e = omega (arith, few, (behind-ahead g e).3)
+        go (Some g) e = omega (arith, few, (behind_ahead g e).3)
 
-    pub less-behind : left (gap_behind p stop) < suc (far.limit p - stop)
-    less-behind = go (gap_behind p stop) refl
+    pub less_behind : left (gap_behind p stop) < suc (far.limit p - stop)
+    less_behind = go (gap_behind p stop) refl
       where
         go : (o : Option Stretch) → gap_behind p stop ≡ o → left o < suc (far.limit p - stop)
         go None e = omega arith
-        go (Some g) e = omega (arith, (behind-ahead g e).0, (behind-ahead g e).1)
+        go (Some g) e = omega (arith, (behind_ahead g e).0, (behind_ahead g e).1)
 
   -- a turn that counts a gap's entry
   pub counts_on : (total : ℕ → ℕ) (length fuel : ℕ) (o o' : Option Stretch) (g : Stretch) → o ≡ Some g → o' ≡ gap_behind p g.stop
@@ -169,7 +169,7 @@ module _ (p : far.Partial) where
   pub left_less : (fuel : ℕ) (o o' : Option Stretch) (g : Stretch) → o ≡ Some g → o' ≡ gap_behind p g.stop → Lasts fuel o → left o' < left o
   left_less fuel o o' g e e' lasts =
       let here = subst (Lasts fuel) e lasts in
-      omega (arith, ap left e, ap left e', less-behind fuel g.stop here.0 here.1)
+      omega (arith, ap left e, ap left e', less_behind fuel g.stop here.0 here.1)
 
   -- a turn that adds a gap's entry
   pub fills_on : (total : Step (Unit {0})) (x fuel : ℕ) (o o' : Option Stretch) (g : Stretch) (d d' : Draft) (b b' : Bytes) → o ≡ Some g → o' ≡ gap_behind p g.stop
@@ -195,28 +195,28 @@ module _ (p : far.Partial) where
 
 -- a slot that holds nothing, and one that holds something
 module _ (s : Slot) where
-  pub limit-short : far.limit (partial_of s) ≤ 502
-  limit-short = go s.known_end refl
+  pub limit_short : far.limit (partial_of s) ≤ 502
+  limit_short = go s.known_end refl
     where
       go : (o : Option ℕ) → s.known_end ≡ o → far.limit (partial_of s) ≤ 502
       go None e = omega (arith, limit_is (partial_of s) None e)
       go (Some n) e = omega (arith, limit_is (partial_of s) (Some n) e, (bounds_end s.known_end s.top n s.bounded e).1)
 
-  holds-some : ltb 0 s.top ≡ ltb (far.held_from (partial_of s) 502 0) 502
-  holds-some = held_beyond s.held s.bytes s.known_end 502 0 s.top (omega arith) s.short s.beyond s.highest
+  holds_some : ltb 0 s.top ≡ ltb (far.held_from (partial_of s) 502 0) 502
+  holds_some = held_beyond s.held s.bytes s.known_end 502 0 s.top (omega arith) s.short s.beyond s.highest
 
   low : far.held_from (partial_of s) 502 0 ≤ 0 + 502
   low = seek_to (far.holds (partial_of s)) 502 0
 
   pub entries_none : (x : ℕ) → s.top ≡ 0 → far.sdu_entries x (partial_of s) ≡ record { nack_sn = x % 4096; missing = every } ∷ []
   entries_none x e =
-      let least : 502 ≤ far.held_from (partial_of s) 502 0 = ltb-false (far.held_from (partial_of s) 502 0) 502 (sym holds-some ∙ le-ltb 0 s.top (omega (arith, e))) in
+      let least : 502 ≤ far.held_from (partial_of s) 502 0 = ltb-false (far.held_from (partial_of s) 502 0) 502 (sym holds_some ∙ le-ltb 0 s.top (omega (arith, e))) in
       let all : far.held_from (partial_of s) 502 0 ≡ 502 = omega (arith, low, least) in
       cond-true _ _ _ (eq-eqb (far.held_from (partial_of s) 502 0) 502 all)
 
-  pub entries-some : (x : ℕ) → (s.top ≡ 0 → ⊥) → far.sdu_entries x (partial_of s) ≡ gaps_on (partial_of s) x 501 (gap_at (partial_of s) 0)
-  entries-some x d =
-      let less : far.held_from (partial_of s) 502 0 < 502 = ltb-true (far.held_from (partial_of s) 502 0) 502 (sym holds-some ∙ lt-ltb 0 s.top (omega (arith, d))) in
+  pub entries_some : (x : ℕ) → (s.top ≡ 0 → ⊥) → far.sdu_entries x (partial_of s) ≡ gaps_on (partial_of s) x 501 (gap_at (partial_of s) 0)
+  entries_some x d =
+      let less : far.held_from (partial_of s) 502 0 < 502 = ltb-true (far.held_from (partial_of s) 502 0) 502 (sym holds_some ∙ lt-ltb 0 s.top (omega (arith, d))) in
       cond-false _ _ _ (ne_eqb (far.held_from (partial_of s) 502 0) 502 (λ e. omega (arith, e, less)))
       ∙ gaps_first (partial_of s) x 501 0
 

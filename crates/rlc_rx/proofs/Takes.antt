@@ -59,38 +59,38 @@ module _ (e : FarEnd) (x : ℕ) (a : Amd) (slots : List Slot) (h : Keeps e x a s
       (timer_of e.t_status_prohibit) a (partials slots) (polls slots) h.from e.counters.status_from e.counters.status_to e.waits h.sdus h.flags near
 
   module _ (k : Counters) (m : Moves e x slots k) where
-    pub status-low : next e ≤ count_of k.rx_highest_status
-    status-low =
+    pub status_low : next e ≤ count_of k.rx_highest_status
+    status_low =
         omega (
           arith,
           m.status_is,
-          steps.status-low (next e) (high e) (status e) (trigger e) x (partials e.slots) (polls e.slots) (timer_of e.t_reassembly) (reporting_of e.reporting)
+          steps.status_low (next e) (high e) (status e) (trigger e) x (partials e.slots) (polls e.slots) (timer_of e.t_reassembly) (reporting_of e.reporting)
               (timer_of e.t_status_prohibit) a (partials slots) (polls slots) h.from e.counters.status_from e.counters.status_to e.waits h.sdus h.flags near,
         )
 
-    pub status-top : count_of k.rx_highest_status ≤ next e + 16
-    status-top =
+    pub status_top : count_of k.rx_highest_status ≤ next e + 16
+    status_top =
         omega (
           arith,
           m.status_is,
-          steps.status-top (next e) (high e) (status e) (trigger e) x (partials e.slots) (polls e.slots) (timer_of e.t_reassembly) (reporting_of e.reporting)
+          steps.status_top (next e) (high e) (status e) (trigger e) x (partials e.slots) (polls e.slots) (timer_of e.t_reassembly) (reporting_of e.reporting)
               (timer_of e.t_status_prohibit) a (partials slots) (polls slots) h.from e.counters.status_from e.counters.status_to e.waits h.sdus h.flags near,
         )
 
-    pub waits-then : (sdus' : List far.Partial) → sdus' ≡ partials slots
+    pub waits_then : (sdus' : List far.Partial) → sdus' ≡ partials slots
         → far.complete (sdus_in (count_of k.rx_next) (count_of k.rx_next_highest) sdus' (count_of k.rx_highest_status)) ≡ false
-    waits-then sdus' same =
+    waits_then sdus' same =
         ap (λ ps. far.complete (sdus_in (count_of k.rx_next) (count_of k.rx_next_highest) ps (count_of k.rx_highest_status))) same
-        ∙ steps.waits-then (next e) (high e) (status e) (trigger e) x (partials e.slots) (polls e.slots) (timer_of e.t_reassembly) (reporting_of e.reporting)
+        ∙ steps.waits_then (next e) (high e) (status e) (trigger e) x (partials e.slots) (polls e.slots) (timer_of e.t_reassembly) (reporting_of e.reporting)
         (timer_of e.t_status_prohibit) a (partials slots) (polls slots) h.from e.counters.status_from e.counters.status_to e.waits h.sdus h.flags near
         _ _ _ _ m.next_is m.high_is m.status_is m.trigger_is
 
     module _ (settles : Bool) (t : Timer)
         (settles_is : settles ≡ steps.settled (count_of k.rx_next) (count_of k.rx_next_status_trigger) (sdus_in (count_of k.rx_next) (count_of k.rx_next_highest) (partials slots)))
         (t_is : t ≡ stopped_if settles (timer_of e.t_reassembly)) where
-      pub triggered-then : runs t ≡ true → count_of k.rx_next ≤ count_of k.rx_next_status_trigger
-      triggered-then =
-          steps.triggered-then (next e) (high e) (status e) (trigger e) x (partials e.slots) (polls e.slots) (timer_of e.t_reassembly) (reporting_of e.reporting)
+      pub triggered_then : runs t ≡ true → count_of k.rx_next ≤ count_of k.rx_next_status_trigger
+      triggered_then =
+          steps.triggered_then (next e) (high e) (status e) (trigger e) x (partials e.slots) (polls e.slots) (timer_of e.t_reassembly) (reporting_of e.reporting)
           (timer_of e.t_status_prohibit) a (partials slots) (polls slots) h.from e.counters.status_from e.counters.status_to e.waits h.sdus h.flags near
           _ _ _ _ m.next_is m.high_is m.status_is m.trigger_is settles t settles_is t_is
 

@@ -2,7 +2,7 @@
 use Rattle.std.proofs.Common.{◌≡◌, ℕ, zero, suc, ◌+◌, ◌-◌, ◌<◌, ◌≤◌, Bool, true, false, cond, not, eqb, ltb, leb, ◌⊎◌, List, [], ◌∷◌, length, get_or, set, replicate, is_some, Some, None, Option, sym, refl, ap, ◌∙◌, ⊎_elim, arith}
 use Rattle.protocol.specs.Bytes.{Bytes}
 use Rattle.protocol.specs.Receiving as far
-use Rattle.protocol.proofs.Seeks.{seek-from, seek_to, seek_found, seek-before, seek_least}
+use Rattle.protocol.proofs.Seeks.{seek_from, seek_to, seek_found, seek_before, seek_least}
 use Rattle.rlc_rx.specs.Flags.{tally, is_held, NoneFrom, EndsAt, bounds}
 use Rattle.rlc_rx.specs.Slots.{partial}
 use Rattle.std.proofs.lemmas.List.{get_or-replicate, get_or_past, length-replicate}
@@ -11,12 +11,12 @@ use Rattle.std.proofs.lemmas.Bool.{and_parts, leb-true, cond-false, both_ways, c
 tail_none : (n : ℕ) (f : Bool) (fs : List Bool) → NoneFrom (suc n) (f ∷ fs) → NoneFrom n fs
 tail_none n f fs h i le = h (suc i) (omega (arith, le))
 
-pub tally-below : (n : ℕ) (flags : List Bool) → NoneFrom n flags → tally flags ≤ n
-tally-below n [] h = omega arith
-tally-below zero (true ∷ fs) h = absurd (both_ways true (h 0 (omega arith)) refl)
-tally-below zero (false ∷ fs) h = omega (arith, tally-below zero fs (λ i le. h (suc i) (omega (arith, le))))
-tally-below (suc n) (true ∷ fs) h = omega (arith, tally-below n fs (tail_none n true fs h))
-tally-below (suc n) (false ∷ fs) h = omega (arith, tally-below n fs (tail_none n false fs h))
+pub tally_below : (n : ℕ) (flags : List Bool) → NoneFrom n flags → tally flags ≤ n
+tally_below n [] h = omega arith
+tally_below zero (true ∷ fs) h = absurd (both_ways true (h 0 (omega arith)) refl)
+tally_below zero (false ∷ fs) h = omega (arith, tally_below zero fs (λ i le. h (suc i) (omega (arith, le))))
+tally_below (suc n) (true ∷ fs) h = omega (arith, tally_below n fs (tail_none n true fs h))
+tally_below (suc n) (false ∷ fs) h = omega (arith, tally_below n fs (tail_none n false fs h))
 
 -- as many as there are places: each is set
 pub tally_full : (n : ℕ) (flags : List Bool) → NoneFrom n flags → tally flags ≡ n → (k : ℕ) → k < n → is_held flags k ≡ true
@@ -24,15 +24,15 @@ tally_full n [] h e k lt = absurd (omega (arith, e, lt))
 tally_full zero (f ∷ fs) h e k lt = absurd (omega (arith, lt))
 tally_full (suc n) (true ∷ fs) h e zero lt = refl
 tally_full (suc n) (true ∷ fs) h e (suc k) lt = tally_full n fs (tail_none n true fs h) (omega (arith, e)) k (omega (arith, lt))
-tally_full (suc n) (false ∷ fs) h e k lt = absurd (omega (arith, e, tally-below n fs (tail_none n false fs h)))
+tally_full (suc n) (false ∷ fs) h e k lt = absurd (omega (arith, e, tally_below n fs (tail_none n false fs h)))
 
-pub tally-all : (n : ℕ) (flags : List Bool) → n ≤ length flags → NoneFrom n flags → ((k : ℕ) → k < n → is_held flags k ≡ true)
+pub tally_all : (n : ℕ) (flags : List Bool) → n ≤ length flags → NoneFrom n flags → ((k : ℕ) → k < n → is_held flags k ≡ true)
     → tally flags ≡ n
-tally-all zero flags l h all = omega (arith, tally-below 0 flags h)
-tally-all (suc n) [] l h all = absurd (omega (arith, l))
-tally-all (suc n) (true ∷ fs) l h all =
-    omega (arith, tally-all n fs (omega (arith, l)) (tail_none n true fs h) (λ k lt. all (suc k) (omega (arith, lt))))
-tally-all (suc n) (false ∷ fs) l h all = absurd (both_ways false refl (all 0 (omega arith)))
+tally_all zero flags l h all = omega (arith, tally_below 0 flags h)
+tally_all (suc n) [] l h all = absurd (omega (arith, l))
+tally_all (suc n) (true ∷ fs) l h all =
+    omega (arith, tally_all n fs (omega (arith, l)) (tail_none n true fs h) (λ k lt. all (suc k) (omega (arith, lt))))
+tally_all (suc n) (false ∷ fs) l h all = absurd (both_ways false refl (all 0 (omega arith)))
 
 pub tally-set : (flags : List Bool) (i : ℕ) → i < length flags → is_held flags i ≡ false → tally (set flags i true) ≡ tally flags + 1
 tally-set [] i lt h = absurd (omega (arith, lt))
@@ -55,13 +55,13 @@ module _ (flags : List Bool) (bytes : Bytes) (end : Option ℕ) where
 
   -- all bytes before n are held
   reached : (n k : ℕ) → k < far.missing_from p n 0 → is_held flags k ≡ true
-  reached n k lt = sym (holds_is k) ∙ not-false _ (seek-before (λ j. not (far.holds p j)) n 0 k (omega arith) lt)
+  reached n k lt = sym (holds_is k) ∙ not-false _ (seek_before (λ j. not (far.holds p j)) n 0 k (omega arith) lt)
 
   pub complete_is : (n : ℕ) → n ≤ length flags → NoneFrom n flags → eqb (tally flags) n ≡ far.complete_to p (Some n)
   complete_is n room beyond = ⊎_elim all some (cases_eq (far.missing_from p n 0) n)
     where
       all : far.missing_from p n 0 ≡ n → eqb (tally flags) n ≡ eqb (far.missing_from p n 0) n
-      all e = eq-eqb _ n (tally-all n flags room beyond (λ k lt. reached n k (omega (arith, lt, e)))) ∙ sym (eq-eqb _ n e)
+      all e = eq-eqb _ n (tally_all n flags room beyond (λ k lt. reached n k (omega (arith, lt, e)))) ∙ sym (eq-eqb _ n e)
 
       some : (far.missing_from p n 0 ≡ n → ⊥) → eqb (tally flags) n ≡ eqb (far.missing_from p n 0) n
       some d =
@@ -89,7 +89,7 @@ module _ (flags : List Bool) (bytes : Bytes) (end : Option ℕ) where
           never : far.held_from p (n - i) i < n → ⊥
           never lt =
               let found = seek_found (far.holds p) (n - i) i (omega (arith, lt, le)) in
-              let from = seek-from (far.holds p) (n - i) i in
+              let from = seek_from (far.holds p) (n - i) i in
               both_ways _ (holds_is _ ∙ beyond (far.held_from p (n - i) i) (omega (arith, from, ge))) found
 
   pub hole_is : (n top : ℕ) → top ≤ n → n ≤ length flags → NoneFrom top flags → EndsAt top flags
@@ -101,7 +101,7 @@ module _ (flags : List Bool) (bytes : Bytes) (end : Option ℕ) where
       to = seek_to (λ j. not (far.holds p j)) n 0
 
       below : tally flags ≤ top
-      below = tally-below top flags beyond
+      below = tally_below top flags beyond
 
       same : (far.missing_from p n 0 < top) ⊎ (top ≤ far.missing_from p n 0) → ltb (tally flags) top ≡ ltb (far.missing_from p n 0) top
       same = ⊎_elim missing none
@@ -116,7 +116,7 @@ module _ (flags : List Bool) (bytes : Bytes) (end : Option ℕ) where
 
           none : top ≤ far.missing_from p n 0 → ltb (tally flags) top ≡ ltb (far.missing_from p n 0) top
           none ge =
-              le-ltb _ top (omega (arith, tally-all top flags (omega (arith, room, size)) beyond (λ k lt. reached n k (omega (arith, lt, ge)))))
+              le-ltb _ top (omega (arith, tally_all top flags (omega (arith, room, size)) beyond (λ k lt. reached n k (omega (arith, lt, ge)))))
               ∙ sym (le-ltb _ top ge)
 
 -- no flag set

@@ -1,12 +1,12 @@
 -- What the marks of a slot are once an entry was considered.
 use borrow.Rule.Slice.PartMut.{put_mid}
 use Rattle.std.proofs.Common.{◌≡◌, ℕ, ◌+◌, ◌-◌, ◌<◌, ◌≤◌, Bool, true, false, cond, ◌&&◌, ltb, leb, ◌⊎◌, List, map, length, get_or, take, drop, Some, None, count_by, Option, sym, refl, ap, ◌∙◌, inl, inr, ⊎_elim, arith}
-use Rattle.protocol.proofs.Seeks.{seek_found, seek-before}
+use Rattle.protocol.proofs.Seeks.{seek_found, seek_before}
 use Rattle.protocol.specs.Searching.{seek}
 use Rattle.protocol.specs.Sending as protocol
-use Rattle.rlc_tx.proofs.Changes.{after-each}
+use Rattle.rlc_tx.proofs.Changes.{after_each}
 use Rattle.rlc_tx.proofs.Marked.{none_counted}
-use Rattle.rlc_tx.proofs.OfSlot.{long, bounded-more}
+use Rattle.rlc_tx.proofs.OfSlot.{long, bounded_more}
 use Rattle.rlc_tx.specs.Considered.{counted_once}
 use Rattle.rlc_tx.specs.Marks.{is_sent, replaced, mark_of, mark_at, bounded}
 use Rattle.rlc_tx.specs.Slots.{sdu_of}
@@ -27,10 +27,10 @@ module _ (s : Slot) (named : ℕ → Bool) (from to : ℕ) (order : from ≤ to)
   placed = omega (arith, inner, s.within, s.short, s.placed)
 
   -- only sent bytes change, and those were begun
-  pub considered-marks : (ys : List Mark) → ys ≡ map (replaced Sent Pending) (take (to - from) (drop from s.marks)) → (i : ℕ)
+  pub considered_marks : (ys : List Mark) → ys ≡ map (replaced Sent Pending) (take (to - from) (drop from s.marks)) → (i : ℕ)
       → mark_at (put_mid from (to - from) s.marks ys) i ≡ protocol.repend (named i) (mark_at s.marks i)
-  considered-marks ys is =
-      after-each Sent Pending s.marks ys from to order placed is (λ i m. m ≡ protocol.repend (named i) (mark_at s.marks i)) (λ i out. sym (stays i out (cases_lt i s.sent)))
+  considered_marks ys is =
+      after_each Sent Pending s.marks ys from to order placed is (λ i m. m ≡ protocol.repend (named i) (mark_at s.marks i)) (λ i out. sym (stays i out (cases_lt i s.sent)))
       (λ i lo hi. pends (get_or s.marks i Unsent) (named i) (sym (names i (omega (arith, hi, inner))) ∙ and_from _ _ (le-leb from i lo) (lt-ltb i to hi)))
     where
       unnamed : (i : ℕ) → (i < from) ⊎ (to ≤ i) → i < s.sent → named i ≡ false
@@ -98,7 +98,7 @@ module _ (s : Slot) (named : ℕ → Bool) (from to : ℕ) (order : from ≤ to)
               inside k =
                   ap is_sent (in_range i k)
                   ∙ right (named (from + i)) _ (sym (names (from + i) (omega (arith, k, inner))) ∙ and_from _ _ (le-leb from (from + i) (omega arith)) (lt-ltb (from + i) to (omega (arith, k))))
-                  (seek-before test (length (sdu_of s).bytes) 0 (from + i) (omega arith) (omega (arith, l, k, inner, s.within, long s)))
+                  (seek_before test (length (sdu_of s).bytes) 0 (from + i) (omega arith) (omega (arith, l, k, inner, s.within, long s)))
                 where
                   right : (x y : Bool) → x ≡ true → (x && y) ≡ false → y ≡ false
                   right true y e f = f
@@ -107,7 +107,7 @@ module _ (s : Slot) (named : ℕ → Bool) (from to : ℕ) (order : from ≤ to)
 -- RETX_COUNT stays within its bound
 pub still_bounded : (counted : Bool) (retx_count : Option ℕ) (pending newly : ℕ) → bounded false pending retx_count ≡ true
     → bounded false (pending + newly) (counted_once counted retx_count (ltb 0 newly)) ≡ true
-still_bounded true retx_count pending newly h = bounded-more false pending (pending + newly) retx_count (omega arith) h
+still_bounded true retx_count pending newly h = bounded_more false pending (pending + newly) retx_count (omega arith) h
 still_bounded false None pending newly h = le-leb 0 (255 + (pending + newly)) (omega arith)
 still_bounded false (Some n) pending newly h = ⊎_elim more same (cases_lt 0 newly)
   where
@@ -115,4 +115,4 @@ still_bounded false (Some n) pending newly h = ⊎_elim more same (cases_lt 0 ne
     more l = ap (bounded false (pending + newly)) (cond-true _ _ _ (lt-ltb 0 newly l)) ∙ le-leb (n + 1) (255 + (pending + newly)) (omega (arith, l, leb-true n (255 + pending) h))
 
     same : newly ≤ 0 → bounded false (pending + newly) (cond (ltb 0 newly) (Some (n + 1)) (Some n)) ≡ true
-    same l = ap (bounded false (pending + newly)) (cond-false _ _ _ (le-ltb 0 newly l)) ∙ bounded-more false pending (pending + newly) (Some n) (omega arith) h
+    same l = ap (bounded false (pending + newly)) (cond-false _ _ _ (le-ltb 0 newly l)) ∙ bounded_more false pending (pending + newly) (Some n) (omega arith) h

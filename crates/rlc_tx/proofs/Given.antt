@@ -10,11 +10,11 @@ use Rattle.rlc_tx.specs.declared.slots.Slot.{Slot}
 use Rattle.rlc_tx.specs.declared.windows.Window.{Window}
 use Rattle.wire.specs.Views.{count_of}
 
-pub sdus-after : (n : NearEnd) (w : Window) (slot : Slot) (place : ℕ) (sdu : Sdu) → count_of w.tx_next_ack ≡ count_of n.window.tx_next_ack
+pub sdus_after : (n : NearEnd) (w : Window) (slot : Slot) (place : ℕ) (sdu : Sdu) → count_of w.tx_next_ack ≡ count_of n.window.tx_next_ack
     → count_of w.tx_next ≡ count_of n.window.tx_next + 1 → count_of n.window.tx_next < count_of n.window.tx_next_ack + 16
     → place ≡ count_of n.window.tx_next % 16 → sdu_of slot ≡ sdu
     → (y : ℕ) → sdus_in (set n.slots place slot) w y ≡ update (sdus_in n.slots n.window) (count_of n.window.tx_next) sdu y
-sdus-after n w slot place sdu first_is next_is room at is y =
+sdus_after n w slot place sdu first_is next_is room at is y =
     let first = count_of n.window.tx_next_ack in
     let next = count_of n.window.tx_next in
     ap (λ k. sdu_at (map sdu_of (set n.slots place slot)) k (count_of w.tx_next) y) first_is

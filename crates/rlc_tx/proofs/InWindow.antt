@@ -91,8 +91,8 @@ slot_given slots first next slot size order room y =
         one_less = ⊎_elim (λ l. lt-ltb y (next + 1) (omega (arith, l)) ∙ sym (lt-ltb y next l)) (λ l. le-ltb y (next + 1) (omega (arith, l, d)) ∙ sym (le-ltb y next l)) (cases_lt y next)
 
 -- what holds of each SDU, once one was changed
-pub update-each : (P : Sdu → Type 0) (f : ℕ → Sdu) (x : ℕ) (s : Sdu) → ((y : ℕ) → P (f y)) → P s → (y : ℕ) → P (update f x s y)
-update-each P f x s was now y = cond_both (eqb y x) s (f y) P (λ e. now) (λ e. was y)
+pub update_each : (P : Sdu → Type 0) (f : ℕ → Sdu) (x : ℕ) (s : Sdu) → ((y : ℕ) → P (f y)) → P s → (y : ℕ) → P (update f x s y)
+update_each P f x s was now y = cond_both (eqb y x) s (f y) P (λ e. now) (λ e. was y)
 
 -- the slot of a count in a window, and that slot changed
 module _ (slots : List Slot) (w : Window) (x place : ℕ) (size : length slots ≡ 16) (at : place ≡ x % 16) (from : count_of w.tx_next_ack ≤ x) (to : x < count_of w.tx_next) where

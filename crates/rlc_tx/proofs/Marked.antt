@@ -1,7 +1,7 @@
 -- What the numbers that a slot keeps say of its marks.
 use Rattle.std.proofs.Common.{◌≡◌, ℕ, zero, suc, ◌+◌, ◌-◌, ◌<◌, ◌≤◌, min, Bool, true, false, cond, not, ◌||◌, ltb, ◌⊎◌, List, [], ◌∷◌, length, get_or, take, drop, count_by, sym, refl, ap, ◌∙◌, subst, inl, inr, ⊎_elim, add-one, arith}
-use Rattle.protocol.proofs.Marks.{seek_is, has-found, has-at, begun}
-use Rattle.protocol.proofs.Seeks.{seek_to, seek_found, seek-before}
+use Rattle.protocol.proofs.Marks.{seek_is, has_found, has_at, begun}
+use Rattle.protocol.proofs.Seeks.{seek_to, seek_found, seek_before}
 use Rattle.protocol.specs.Searching.{seek}
 use Rattle.protocol.specs.Sending as protocol
 use Rattle.rlc_tx.specs.Marks.{is_sent, is_pending, mark_at, Begun, Unbegun, NoneBelow, pending_in}
@@ -43,8 +43,8 @@ none_counted {A = A} p d (x ∷ xs) none =
     omega (arith, sum_by-cons weight x xs, here, none_counted p d xs (λ i. none (suc i)))
 
 -- a search by another text of its test
-pub seek-same : (p q : ℕ → Bool) → ((i : ℕ) → p i ≡ q i) → (n i : ℕ) → seek p n i ≡ seek q n i
-seek-same p q same n i = ap (λ test. seek test n i) (λ k. λ j. same j k)
+pub seek_same : (p q : ℕ → Bool) → ((i : ℕ) → p i ≡ q i) → (n i : ℕ) → seek p n i ≡ seek q n i
+seek_same p q same n i = ap (λ test. seek test n i) (λ k. λ j. same j k)
 
 -- the numbers that a slot keeps
 pub record Marked (ms : List Mark) (size sent pending low : ℕ) : Type 0 where
@@ -91,7 +91,7 @@ module _ (ms : List Mark) (size sent pending low : ℕ) (marked : Marked ms size
   first_begun = omega (arith, first_seek, seek_to (λ j. not (is_sent (get_or ms j Unsent))) (sent - low) low, marked.low_begun)
 
   pub first_none : (i : ℕ) → i < first_pending → protocol.is_pending (mark_at ms i) ≡ false
-  first_none i l = ⊎_elim (λ below. marked.none_below i below) (λ from. sent_not_pending _ (not-false _ (seek-before test (sent - low) low i from (omega (arith, l, first_seek))))) (cases_lt i low)
+  first_none i l = ⊎_elim (λ below. marked.none_below i below) (λ from. sent_not_pending _ (not-false _ (seek_before test (sent - low) low i from (omega (arith, l, first_seek))))) (cases_lt i low)
     where
       test : ℕ → Bool
       test j = not (is_sent (get_or ms j Unsent))
@@ -120,15 +120,15 @@ module _ (ms : List Mark) (size sent pending low : ℕ) (marked : Marked ms size
     where
       go : (protocol.has test s ≡ true) ⊎ (protocol.has test s ≡ false) → protocol.has test s ≡ false
       go (inl e) =
-          let found = has-found test s e in
+          let found = has_found test s e in
           absurd (both_ways _ (none _ (omega (arith, found.0, long))) (ap test (sym (same _)) ∙ found.1))
       go (inr e) = e
 
   has_one : (test : protocol.Mark → Bool) (i : ℕ) → i < size → test (mark_at ms i) ≡ true → protocol.has test s ≡ true
-  has_one test i l t = has-at test s i (omega (arith, l, long)) (ap test (same i) ∙ t)
+  has_one test i l t = has_at test s i (omega (arith, l, long)) (ap test (same i) ∙ t)
 
-  pub has-pending : protocol.has protocol.is_pending s ≡ ltb 0 pending
-  has-pending = ⊎_elim yes no (cases_lt 0 pending)
+  pub has_pending : protocol.has protocol.is_pending s ≡ ltb 0 pending
+  has_pending = ⊎_elim yes no (cases_lt 0 pending)
     where
       yes : 0 < pending → protocol.has protocol.is_pending s ≡ ltb 0 pending
       yes l =
@@ -138,8 +138,8 @@ module _ (ms : List Mark) (size sent pending low : ℕ) (marked : Marked ms size
       no : pending ≤ 0 → protocol.has protocol.is_pending s ≡ ltb 0 pending
       no l = has_no protocol.is_pending (λ i k. none_pending ms size sent pending low marked (omega (arith, l)) i) ∙ sym (le-ltb 0 pending l)
 
-  pub has-unsent : protocol.has protocol.is_unsent s ≡ ltb sent size
-  has-unsent = ⊎_elim (λ l. has_one protocol.is_unsent sent l (marked.unbegun sent (omega arith)) ∙ sym (lt-ltb sent size l))
+  pub has_unsent : protocol.has protocol.is_unsent s ≡ ltb sent size
+  has_unsent = ⊎_elim (λ l. has_one protocol.is_unsent sent l (marked.unbegun sent (omega arith)) ∙ sym (lt-ltb sent size l))
       (λ l. has_no protocol.is_unsent (λ i k. marked.begun i (omega (arith, k, l))) ∙ sym (le-ltb sent size l)) (cases_lt sent size)
 
   pub has_begun : begun s ≡ ltb 0 sent
@@ -167,14 +167,14 @@ module _ (ms : List Mark) (size sent pending low : ℕ) (marked : Marked ms size
           ∙ sym (le-ltb 0 (pending + (size - sent)) (omega (arith, p, l)))
 
   -- where runs begin
-  pub byte-pending : 0 < pending → protocol.byte_from protocol.is_pending s 0 ≡ first_pending ms size sent pending low marked
-  byte-pending some =
+  pub byte_pending : 0 < pending → protocol.byte_from protocol.is_pending s 0 ≡ first_pending ms size sent pending low marked
+  byte_pending some =
       let f = first_is ms size sent pending low marked some in
       seek_is (λ j. protocol.is_pending (s.mark j)) (length s.bytes - 0) 0 _ (omega arith) (omega (arith, f.0, marked.within, long))
       (λ j lo hi. ap protocol.is_pending (same j) ∙ first_none ms size sent pending low marked j hi) (λ l. ap protocol.is_pending (same _) ∙ f.1)
 
-  pub byte-unsent : protocol.byte_from protocol.is_unsent s 0 ≡ sent
-  byte-unsent =
+  pub byte_unsent : protocol.byte_from protocol.is_unsent s 0 ≡ sent
+  byte_unsent =
       seek_is (λ j. protocol.is_unsent (s.mark j)) (length s.bytes - 0) 0 sent (omega arith) (omega (arith, marked.within, long))
       (λ j lo hi. ap protocol.is_unsent (same j) ∙ marked.begun j hi) (λ l. ap protocol.is_unsent (same sent) ∙ marked.unbegun sent (omega arith))
 
@@ -186,6 +186,6 @@ module _ (ms : List Mark) (size sent pending low : ℕ) (marked : Marked ms size
 
   pub pending_to : (from : ℕ) → from ≤ size → protocol.byte_from (λ m. not (protocol.is_pending m)) s from ≡ from + min (prefix_len is_pending (drop from ms)) (size - from)
   pending_to from l =
-      seek-same (λ j. not (protocol.is_pending (s.mark j))) (λ j. not (is_pending (get_or ms j Unsent))) (λ j. ap (λ m. not (protocol.is_pending m)) (same j)) (length s.bytes - from) from
+      seek_same (λ j. not (protocol.is_pending (s.mark j))) (λ j. not (is_pending (get_or ms j Unsent))) (λ j. ap (λ m. not (protocol.is_pending m)) (same j)) (length s.bytes - from) from
       ∙ ap (λ n. seek (λ j. not (is_pending (get_or ms j Unsent))) (n - from) from) long
       ∙ seek_leading is_pending ms Unsent (size - from) from (omega (arith, l, marked.short, marked.placed))

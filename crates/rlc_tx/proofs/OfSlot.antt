@@ -56,7 +56,7 @@ facts stored m few =
     }
 
 -- more may be pending
-pub bounded-more : (acknowledged : Bool) (few many : ℕ) (retx_count : Option ℕ) → few ≤ many → bounded acknowledged few retx_count ≡ true → bounded acknowledged many retx_count ≡ true
-bounded-more true few many retx_count more b = refl
-bounded-more false few many None more b = refl
-bounded-more false few many (Some n) more b = le-leb n (255 + many) (omega (arith, more, leb-true n (255 + few) b))
+pub bounded_more : (acknowledged : Bool) (few many : ℕ) (retx_count : Option ℕ) → few ≤ many → bounded acknowledged few retx_count ≡ true → bounded acknowledged many retx_count ≡ true
+bounded_more true few many retx_count more b = refl
+bounded_more false few many None more b = refl
+bounded_more false few many (Some n) more b = le-leb n (255 + many) (omega (arith, more, leb-true n (255 + few) b))

@@ -3,7 +3,7 @@ use Rattle.std.proofs.Common.{◌≡◌, ℕ, zero, suc, ◌<◌, ◌≤◌, Boo
 use Rattle.protocol.specs.Pdus.{Entry}
 use Rattle.protocol.specs.Sending as near
 use Rattle.rlc_tx.proofs.Planned.{same_some, none_some}
-use Rattle.rlc_tx.proofs.Stages.{considered-again, counted-again}
+use Rattle.rlc_tx.proofs.Stages.{considered_again, counted_again}
 use Rattle.rlc_tx.specs.Considered.{counts, considered_next, counted_by}
 use Rattle.rlc_tx.specs.Touches.{named_of, counted_of, counted_if, touch_at, entry_count, named_touch, entered, touched}
 use Rattle.rlc_tx.specs.Windows.{sdus_in, bare}
@@ -32,10 +32,10 @@ module _ (n : near.Near) (e : Entry) (x : ℕ) where
   named_more [] = or_none hits
   named_more (d ∷ es) = ap (λ b. eqb (near.tx_count n d.nack_sn) x || b) (named_more es) ∙ or_swap _ (near.named n es x) hits
 
-  pub bytes-more : (es : List Entry) (i : ℕ) → near.named_byte n (es ++ e ∷ []) x i ≡ (near.named_byte n es x i || (eqb (near.tx_count n e.nack_sn) x && near.names_byte e.missing i))
-  bytes-more [] i = or_none (hits && near.names_byte e.missing i)
-  bytes-more (d ∷ es) i =
-      ap (λ b. (eqb (near.tx_count n d.nack_sn) x && near.names_byte d.missing i) || b) (bytes-more es i)
+  pub bytes_more : (es : List Entry) (i : ℕ) → near.named_byte n (es ++ e ∷ []) x i ≡ (near.named_byte n es x i || (eqb (near.tx_count n e.nack_sn) x && near.names_byte e.missing i))
+  bytes_more [] i = or_none (hits && near.names_byte e.missing i)
+  bytes_more (d ∷ es) i =
+      ap (λ b. (eqb (near.tx_count n d.nack_sn) x && near.names_byte d.missing i) || b) (bytes_more es i)
       ∙ or_swap _ (near.named_byte n es x i) (hits && near.names_byte e.missing i)
 
 -- an SDU that is not named has no byte that is
@@ -65,16 +65,16 @@ module _ (s : near.Sdu) (named : Bool) (bytes more : ℕ → Bool) (silent : nam
     where
       go : (b : Bool) → (b ≡ false → (i : ℕ) → bytes i ≡ false)
           → considered_next (b && counts s.retx_count (near.newly_pending bytes s)) more (staged true false b bytes s) ≡ near.considered (λ i. bytes i || more i) s
-      go true none = considered-again s bytes more
+      go true none = considered_again s bytes more
       go false none = ap (λ f. near.considered f s) (λ k. λ i. ap (λ b. b || more i) (sym (none refl i)) k)
 
-  pub counted-named : s.acknowledged ≡ false
+  pub counted_named : s.acknowledged ≡ false
       → counted_by (counted_of t) more (staged true false named bytes s) ≡ counts s.retx_count (near.newly_pending (λ i. bytes i || more i) s)
-  counted-named open_now = ap (λ c. counted_by c more (staged true false named bytes s)) (noted.changed open_now) ∙ go named silent
+  counted_named open_now = ap (λ c. counted_by c more (staged true false named bytes s)) (noted.changed open_now) ∙ go named silent
     where
       go : (b : Bool) → (b ≡ false → (i : ℕ) → bytes i ≡ false)
           → counted_by (b && counts s.retx_count (near.newly_pending bytes s)) more (staged true false b bytes s) ≡ counts s.retx_count (near.newly_pending (λ i. bytes i || more i) s)
-      go true none = counted-again s bytes more
+      go true none = counted_again s bytes more
       go false none = ap (λ f. counts s.retx_count (near.newly_pending f s)) (λ k. λ i. ap (λ b. b || more i) (sym (none refl i)) k)
 
 counted_if_named : (b : Bool) → named_of (counted_if b) ≡ true
@@ -191,7 +191,7 @@ module _ (slots₀ slots after : List Slot) (w : Window) (es : List Entry) (e : 
   now_is x =
       sym
       (ap (λ b. staged (ltb x (count_of w.tx_next)) (sdus_in slots₀ w x).acknowledged b (near.named_byte n (es ++ e ∷ []) x) (sdus_in slots₀ w x)) (named_more n e x es)
-      ∙ ap (λ f. staged (ltb x (count_of w.tx_next)) (sdus_in slots₀ w x).acknowledged (near.named n es x || eqb (entry_count w e) x) f (sdus_in slots₀ w x)) (λ k. λ i. bytes-more n e x es i k))
+      ∙ ap (λ f. staged (ltb x (count_of w.tx_next)) (sdus_in slots₀ w x).acknowledged (near.named n es x || eqb (entry_count w e) x) f (sdus_in slots₀ w x)) (λ k. λ i. bytes_more n e x es i k))
 
   -- where it is hit, it is in the window
   hit_from : (x : ℕ) → eqb (entry_count w e) x ≡ true → count_of w.tx_next_ack ≤ x
@@ -214,17 +214,17 @@ module _ (slots₀ slots after : List Slot) (w : Window) (es : List Entry) (e : 
             subst (Noted (near.named n (es ++ e ∷ []) x) (near.named_byte n (es ++ e ∷ []) x) (sdus_in slots₀ w x)) (sym (touches_are x lo hi))
             (subst (λ s. Noted (near.named n (es ++ e ∷ []) x) (near.named_byte n (es ++ e ∷ []) x) (sdus_in slots₀ w x) (cond (eqb (entry_count w e) x) (named_touch (near.names_byte e.missing) (counted_of (touch_at touches x)) s) (touch_at touches x))) (sym (stage.sdus x))
             (subst (λ b. Noted b (near.named_byte n (es ++ e ∷ []) x) (sdus_in slots₀ w x) (cond (eqb (entry_count w e) x) (named_touch (near.names_byte e.missing) (counted_of (touch_at touches x)) (was x)) (touch_at touches x))) (sym (named_more n e x es))
-            (subst (λ f. Noted (near.named n es x || eqb (entry_count w e) x) f (sdus_in slots₀ w x) (cond (eqb (entry_count w e) x) (named_touch (near.names_byte e.missing) (counted_of (touch_at touches x)) (was x)) (touch_at touches x))) (sym (λ k. λ i. bytes-more n e x es i k))
+            (subst (λ f. Noted (near.named n es x || eqb (entry_count w e) x) f (sdus_in slots₀ w x) (cond (eqb (entry_count w e) x) (named_touch (near.names_byte e.missing) (counted_of (touch_at touches x)) (was x)) (touch_at touches x))) (sym (λ k. λ i. bytes_more n e x es i k))
             (noted_more (sdus_in slots₀ w x) (near.named n es x) (so_far x) (near.names_byte e.missing) (touch_at touches x) (ltb x (count_of w.tx_next)) (sdus_in slots₀ w x).acknowledged (eqb (entry_count w e) x)
             (lt-ltb x (count_of w.tx_next) hi) refl (stage.noted x lo hi)
-            (λ hit open_now. counted-named (sdus_in slots₀ w x) (near.named n es x) (so_far x) (near.names_byte e.missing) (λ h i. unnamed_bytes n es x i h) (touch_at touches x) (stage.noted x lo hi) open_now)))));
+            (λ hit open_now. counted_named (sdus_in slots₀ w x) (near.named n es x) (so_far x) (near.names_byte e.missing) (λ h i. unnamed_bytes n es x i h) (touch_at touches x) (stage.noted x lo hi) open_now)))));
       }
 
 -- the cursor over the entries -----------------------------------------------------------------------------------------
 
-pub front-some : (xs rest : List Entry) (e : Entry) → ◌≡◌ {A = Option Entry × List Entry} (Some e, rest) (front xs) → xs ≡ e ∷ rest
-front-some [] rest e is = absurd (none_some e (ap (λ p. p.0) is))
-front-some (x ∷ xs) rest e is = let same = same_some e x (ap (λ p. p.0) is) in ap (λ y. y ∷ xs) (sym same) ∙ ap (λ ys. e ∷ ys) (sym (ap (λ p. p.1) is))
+pub front_some : (xs rest : List Entry) (e : Entry) → ◌≡◌ {A = Option Entry × List Entry} (Some e, rest) (front xs) → xs ≡ e ∷ rest
+front_some [] rest e is = absurd (none_some e (ap (λ p. p.0) is))
+front_some (x ∷ xs) rest e is = let same = same_some e x (ap (λ p. p.0) is) in ap (λ y. y ∷ xs) (sym same) ∙ ap (λ ys. e ∷ ys) (sym (ap (λ p. p.1) is))
 
 pub front_none : (xs rest : List Entry) → ◌≡◌ {A = Option Entry × List Entry} (None, rest) (front xs) → xs ≡ []
 front_none [] rest is = refl

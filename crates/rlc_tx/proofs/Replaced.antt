@@ -15,11 +15,11 @@ ahead f ms ys i lt is =
     ∙ get_or-drop i ms (i - i) Unsent ∙ ap (λ j. get_or ms j Unsent) (omega arith)
 
 -- one more, which is `old` or not
-pub replaced-more : (old new : Mark) (ms ys : List Mark) (i n : ℕ) (b : Bool) → i < length ms → length ys ≡ length ms
+pub replaced_more : (old new : Mark) (ms ys : List Mark) (i n : ℕ) (b : Bool) → i < length ms → length ys ≡ length ms
     → (ys ≡ map (replaced old new) (take i ms) ++ drop i ms) × (n ≡ count_by (same old) (take i ms)) → b ≡ same old (get_or ys i Unsent)
     → (set ys i (cond b new (get_or ys i Unsent)) ≡ map (replaced old new) (take (i + 1) ms) ++ drop (i + 1) ms)
     × (cond b (n + 1) n ≡ count_by (same old) (take (i + 1) ms))
-replaced-more old new ms ys i n b lt long inv test = (
+replaced_more old new ms ys i n b lt long inv test = (
   ap (λ t. set ys i (cond t new (get_or ys i Unsent))) test
       ∙ map_over_more (replaced old new) ms ys i (get_or ys i Unsent) lt inv.0 (get_or_default ys i Unsent (get_or ys i Unsent) (omega arith)),
   count b (test ∙ ap (same old) (ahead (replaced old new) ms ys i lt inv.0)),

@@ -21,8 +21,8 @@ module _ (e : NearEnd) (considered settled : List Slot) (touches : List Touch) (
     (settles : (x : ℕ) → sdus_in settled e.window x ≡ settled_to (near_of e).tx_next_ack (near_of e).tx_next ack touches (sdus_in considered e.window) x)
     (first_is : count_of w.tx_next_ack ≡ (near_of e).tx_next_ack + k) (next_is : count_of w.tx_next ≡ (near_of e).tx_next) where
   -- as the rules say, in the old window
-  abbrev sdu-after : ℕ → near.Sdu
-  sdu-after x = near.acknowledged_in (near_of e) ack es x (near.considered_in (near_of e) es x)
+  abbrev sdu_after : ℕ → near.Sdu
+  sdu_after x = near.acknowledged_in (near_of e) ack es x (near.considered_in (near_of e) es x)
 
   pub sdus_are : ack ≤ (near_of e).tx_next → (x : ℕ) → sdus_in settled e.window x ≡ near.acknowledged_in (near_of e) ack es x (near.considered_in (near_of e) es x)
   sdus_are inside x =
@@ -55,5 +55,5 @@ module _ (e : NearEnd) (considered settled : List Slot) (touches : List Touch) (
   start_is inside is =
       is ∙ ap (λ (f : ℕ → near.Sdu). seek (λ x. not (f x).acknowledged) ((near_of e).tx_next - (near_of e).tx_next_ack) (near_of e).tx_next_ack) (λ i. λ x. sdus_are inside x i)
 
-  pub sdus-new : ack ≤ (near_of e).tx_next → (near_of e).tx_next_ack + k ≡ starts → (x : ℕ) → sdus_in settled w x ≡ cond (ltb x starts) near.gone (sdu-after x)
-  sdus-new inside is x = in_new x ∙ ap (λ f. cond (ltb x f) near.gone (sdus_in settled e.window x)) is ∙ ap (cond (ltb x starts) near.gone) (sdus_are inside x)
+  pub sdus_new : ack ≤ (near_of e).tx_next → (near_of e).tx_next_ack + k ≡ starts → (x : ℕ) → sdus_in settled w x ≡ cond (ltb x starts) near.gone (sdu_after x)
+  sdus_new inside is x = in_new x ∙ ap (λ f. cond (ltb x f) near.gone (sdus_in settled e.window x)) is ∙ ap (cond (ltb x starts) near.gone) (sdus_are inside x)

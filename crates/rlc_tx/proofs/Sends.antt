@@ -2,7 +2,7 @@
 use borrow.Rule.Slice.PartMut.{put_mid}
 use Rattle.std.proofs.Common.{◌≡◌, ℕ, ◌+◌, ◌-◌, ◌<◌, ◌≤◌, Bool, true, false, cond, ◌&&◌, ◌||◌, ltb, leb, ◌⊎◌, List, map, length, get_or, take, drop, count_by, sym, refl, ap, ◌∙◌, inl, inr, ⊎_elim, arith}
 use Rattle.protocol.specs.Sending as protocol
-use Rattle.rlc_tx.proofs.Changes.{after_outside, after-inside, after-each, sent-new, sent-again, all-counted}
+use Rattle.rlc_tx.proofs.Changes.{after_outside, after_inside, after_each, sent_new, sent_again, all_counted}
 use Rattle.rlc_tx.proofs.Marked.{Marked, unsent_not_pending, has_left}
 use Rattle.rlc_tx.proofs.OfSlot.{marked, long}
 use Rattle.rlc_tx.proofs.Ranges.{count_within}
@@ -20,9 +20,9 @@ abbrev pub old_of : Bool → Mark
 old_of true = Unsent
 old_of false = Pending
 
-served-same : (new : Bool) (m : Mark) → served_as new (mark_of m) ≡ same (old_of new) m
-served-same true m = refl
-served-same false m = refl
+served_same : (new : Bool) (m : Mark) → served_as new (mark_of m) ≡ same (old_of new) m
+served_same true m = refl
+served_same false m = refl
 
 module _ (s : Slot) (new : Bool) (from size : ℕ) (front : Front (served_as new) (sdu_of s) from size) where
   pub ends_within : from + size ≤ s.size
@@ -32,9 +32,9 @@ module _ (s : Slot) (new : Bool) (from size : ℕ) (front : Front (served_as new
   ends_placed = omega (arith, ends_within, s.short, s.placed)
 
   -- as the rules say
-  pub sent-marks : (ys : List Mark) → ys ≡ map (replaced (old_of new) Sent) (take (from + size - from) (drop from s.marks)) → (i : ℕ)
+  pub sent_marks : (ys : List Mark) → ys ≡ map (replaced (old_of new) Sent) (take (from + size - from) (drop from s.marks)) → (i : ℕ)
       → mark_at (put_mid from (from + size - from) s.marks ys) i ≡ cond (leb from i && ltb i (from + size)) protocol.sent (mark_at s.marks i)
-  sent-marks ys is i = ⊎_elim before (λ lo. ⊎_elim (in_run lo) (behind lo) (cases_lt i (from + size))) (cases_lt i from)
+  sent_marks ys is i = ⊎_elim before (λ lo. ⊎_elim (in_run lo) (behind lo) (cases_lt i (from + size))) (cases_lt i from)
     where
       out : (i < from) ⊎ (from + size ≤ i) → mark_at (put_mid from (from + size - from) s.marks ys) i ≡ mark_at s.marks i
       out = after_outside (old_of new) Sent s.marks ys from (from + size) (omega arith) ends_placed is i
@@ -47,8 +47,8 @@ module _ (s : Slot) (new : Bool) (from size : ℕ) (front : Front (served_as new
 
       in_run : from ≤ i → i < from + size → mark_at (put_mid from (from + size - from) s.marks ys) i ≡ cond (leb from i && ltb i (from + size)) protocol.sent (mark_at s.marks i)
       in_run lo l =
-          after-inside (old_of new) Sent s.marks ys from (from + size) (omega arith) ends_placed is i lo l
-          ∙ ap mark_of (cond-true _ _ _ (sym (served-same new (get_or s.marks i Unsent)) ∙ front.all i lo l))
+          after_inside (old_of new) Sent s.marks ys from (from + size) (omega arith) ends_placed is i lo l
+          ∙ ap mark_of (cond-true _ _ _ (sym (served_same new (get_or s.marks i Unsent)) ∙ front.all i lo l))
           ∙ sym (cond-true _ _ _ (and_from _ _ (le-leb from i lo) (lt-ltb i (from + size) l)))
 
 -- new bytes begin where nothing was sent
@@ -62,9 +62,9 @@ module _ (s : Slot) (from size : ℕ) (front : Front (served_as true) (sdu_of s)
       high : from ≤ s.sent
       high = ⊎_elim (λ l. absurd (both_ways _ (front.none_before s.sent l) (s.unbegun s.sent (omega arith)))) (λ l. l) (cases_lt s.sent from)
 
-  pub marked-new : (ys : List Mark) → ys ≡ map (replaced Unsent Sent) (take (from + size - from) (drop from s.marks))
+  pub marked_new : (ys : List Mark) → ys ≡ map (replaced Unsent Sent) (take (from + size - from) (drop from s.marks))
       → Marked (put_mid from (from + size - from) s.marks ys) s.size (from + size) s.pending s.low
-  marked-new ys is = sent-new s.marks ys s.size s.sent s.pending s.low from (from + size) (marked s) (omega arith) new_start (ends_within s true from size front) is
+  marked_new ys is = sent_new s.marks ys s.size s.sent s.pending s.low from (from + size) (marked s) (omega arith) new_start (ends_within s true from size front) is
 
 -- pending bytes were sent
 module _ (s : Slot) (from size : ℕ) (front : Front (served_as false) (sdu_of s) from size) where
@@ -76,17 +76,17 @@ module _ (s : Slot) (from size : ℕ) (front : Front (served_as false) (sdu_of s
 
   pub run_counted : count_by is_pending (take (from + size - from) (drop from s.marks)) ≡ size
   run_counted =
-      all-counted is_pending again (λ i l. ap is_pending (get_or-take (from + size - from) (drop from s.marks) i Unsent (omega (arith, l, size_of)) ∙ get_or-drop from s.marks i Unsent) ∙ front.all (from + i) (omega arith) (omega (arith, l, size_of)))
+      all_counted is_pending again (λ i l. ap is_pending (get_or-take (from + size - from) (drop from s.marks) i Unsent (omega (arith, l, size_of)) ∙ get_or-drop from s.marks i Unsent) ∙ front.all (from + i) (omega arith) (omega (arith, l, size_of)))
       ∙ size_of
     where
       size_of : length (take (from + size - from) (drop from s.marks)) ≡ size
       size_of = length-take-le (from + size - from) (drop from s.marks) (omega (arith, length-drop from s.marks, ends_placed s false from size front)) ∙ omega arith
 
-  pub marked-again : (ys : List Mark) → ys ≡ map (replaced Pending Sent) (take (from + size - from) (drop from s.marks))
+  pub marked_again : (ys : List Mark) → ys ≡ map (replaced Pending Sent) (take (from + size - from) (drop from s.marks))
       → (n : ℕ) → n ≡ count_by is_pending (take (from + size - from) (drop from s.marks))
       → Marked (put_mid from (from + size - from) s.marks ys) s.size s.sent (s.pending - n) (from + size)
-  marked-again ys is n counts =
-      sent-again s.marks ys s.size s.sent s.pending s.low from (from + size) (marked s) (omega arith) last_begun front.none_before is n counts (from + size) (omega arith)
+  marked_again ys is n counts =
+      sent_again s.marks ys s.size s.sent s.pending s.low from (from + size) (marked s) (omega arith) last_begun front.none_before is n counts (from + size) (omega arith)
 
   pub run_pending : size ≤ s.pending
   run_pending = omega (arith, s.counted, run_counted, count_within is_pending s.marks from (from + size - from))
@@ -102,19 +102,19 @@ left_after s run front = by_new run.new front
     by_new : (new : Bool) → Front (served_as new) (sdu_of s) run.from run.size
         → protocol.has (λ m. protocol.is_unsent m || protocol.is_pending m) (protocol.sent_run run (sdu_of s)) ≡ ltb run.size (s.pending + (s.size - s.sent))
     by_new true f =
-        has_left _ s.size (run.from + run.size) s.pending s.low (marked-new s run.from run.size f _ refl) (protocol.sent_run run (sdu_of s)) (long s)
-        (λ i. sym (sent-marks s true run.from run.size f _ refl i))
+        has_left _ s.size (run.from + run.size) s.pending s.low (marked_new s run.from run.size f _ refl) (protocol.sent_run run (sdu_of s)) (long s)
+        (λ i. sym (sent_marks s true run.from run.size f _ refl i))
         ∙ ap (ltb 0) (omega (arith, new_start s run.from run.size f, ends_within s true run.from run.size f)) ∙ less run.size (s.pending + (s.size - s.sent))
     by_new false f =
-        has_left _ s.size s.sent _ (run.from + run.size) (marked-again s run.from run.size f _ refl _ refl) (protocol.sent_run run (sdu_of s)) (long s)
-        (λ i. sym (sent-marks s false run.from run.size f _ refl i))
+        has_left _ s.size s.sent _ (run.from + run.size) (marked_again s run.from run.size f _ refl _ refl) (protocol.sent_run run (sdu_of s)) (long s)
+        (λ i. sym (sent_marks s false run.from run.size f _ refl i))
         ∙ ap (ltb 0) (omega (arith, run_counted s run.from run.size f, run_pending s run.from run.size f)) ∙ less run.size (s.pending + (s.size - s.sent))
 
 -- all pending bytes made sent ones
-pub settled-marks : (s : Slot) (ys : List Mark) → ys ≡ map (replaced Pending Sent) (take (s.sent - s.low) (drop s.low s.marks)) → (i : ℕ)
+pub settled_marks : (s : Slot) (ys : List Mark) → ys ≡ map (replaced Pending Sent) (take (s.sent - s.low) (drop s.low s.marks)) → (i : ℕ)
     → mark_at (put_mid s.low (s.sent - s.low) s.marks ys) i ≡ cond (protocol.is_pending (mark_at s.marks i)) protocol.sent (mark_at s.marks i)
-settled-marks s ys is =
-    after-each Pending Sent s.marks ys s.low s.sent s.low_begun (omega (arith, s.within, s.short, s.placed)) is
+settled_marks s ys is =
+    after_each Pending Sent s.marks ys s.low s.sent s.low_begun (omega (arith, s.within, s.short, s.placed)) is
     (λ i m. m ≡ cond (protocol.is_pending (mark_at s.marks i)) protocol.sent (mark_at s.marks i)) (λ i out. sym (cond-false _ _ _ (not_pending i out))) (λ i from to. settled (get_or s.marks i Unsent))
   where
     not_pending : (i : ℕ) → (i < s.low) ⊎ (s.sent ≤ i) → protocol.is_pending (mark_at s.marks i) ≡ false

@@ -2,11 +2,11 @@
 use Rattle.std.proofs.Common.{◌≡◌, ℕ, ◌+◌, ◌-◌, ◌<◌, ◌≤◌, Bool, true, false, cond, not, eqb, ltb, length, is_some, Some, None, Option, sym, refl, ap, ◌∙◌, subst, ⊎_elim, arith}
 use Rattle.protocol.proofs.Marks.{seek_is, begun, top_begun}
 use Rattle.protocol.proofs.NearSpent.{run_lengths}
-use Rattle.protocol.proofs.Seeks.{seek-from, seek_to, seek_found, seek-before}
+use Rattle.protocol.proofs.Seeks.{seek_from, seek_to, seek_found, seek_before}
 use Rattle.protocol.specs.Searching.{seek}
 use Rattle.protocol.specs.Sending as near
 use Rattle.rlc_tx.specs.Plans.{Front, Serves, served_as}
-use Rattle.rlc_tx.proofs.Marked.{seek-same}
+use Rattle.rlc_tx.proofs.Marked.{seek_same}
 use Rattle.rlc_tx.specs.Soughts.{left, first_in}
 use Rattle.std.proofs.lemmas.Bool.{both_ways, cases_lt, cond-true, cond-false, lt-ltb, le-ltb, ltb-true, ltb-false, eq-eqb, ne_eqb, eqb-true, not-false, not_from_false, not_from_true}
 use Rattle.std.specs.Option.{option_map}
@@ -23,14 +23,14 @@ module _ (test : ℕ → Bool) (first next : ℕ) (order : first ≤ next) where
   pub found_at : (k : ℕ) → first_in test first next ≡ Some k → (first ≤ k) × (k < next) × (test k ≡ true) × ((j : ℕ) → first ≤ j → j < k → test j ≡ false)
   found_at k e =
       let f = found_before (seek test (next - first) first) k e in (
-        omega (arith, f.1, seek-from test (next - first) first),
+        omega (arith, f.1, seek_from test (next - first) first),
         omega (arith, f.0, f.1),
         subst (λ x. test x ≡ true) f.1 (seek_found test (next - first) first (omega (arith, f.0, order))),
-        λ j lo hi. seek-before test (next - first) first j lo (omega (arith, hi, f.1)),
+        λ j lo hi. seek_before test (next - first) first j lo (omega (arith, hi, f.1)),
       )
 
   pub found_none : first_in test first next ≡ None → (j : ℕ) → first ≤ j → j < next → test j ≡ false
-  found_none e j lo hi = seek-before test (next - first) first j lo (omega (arith, past, hi))
+  found_none e j lo hi = seek_before test (next - first) first j lo (omega (arith, past, hi))
     where
       past : next ≤ seek test (next - first) first
       past = go (ltb (seek test (next - first) first) next) refl e
@@ -76,16 +76,16 @@ module _ (n : near.Near) (ordered : InOrder n) (test : ℕ → near.Sdu → Bool
   window_any None e = le-ltb _ _ (omega (arith, window_none e))
 
 module _ (n : near.Near) (ordered : InOrder n) (grant : ℕ) where
-  pub served-pending : (k : ℕ) → first_in (λ x. near.has near.is_pending (n.sdu x)) n.tx_next_ack n.tx_next ≡ Some k
+  pub served_pending : (k : ℕ) → first_in (λ x. near.has near.is_pending (n.sdu x)) n.tx_next_ack n.tx_next ≡ Some k
       → near.served n grant ≡ Some (near.run_of false near.is_pending n grant k)
-  served-pending k e =
+  served_pending k e =
       cond-true _ _ _ (window_any n ordered (λ x. near.has near.is_pending) (λ x. refl) (Some k) e)
       ∙ ap (λ x. Some (near.run_of false near.is_pending n grant x)) (window_found n ordered (λ x. near.has near.is_pending) (λ x. refl) k e)
 
-  pub served-unsent : (found : Option ℕ) → first_in (λ x. near.has near.is_pending (n.sdu x)) n.tx_next_ack n.tx_next ≡ None
+  pub served_unsent : (found : Option ℕ) → first_in (λ x. near.has near.is_pending (n.sdu x)) n.tx_next_ack n.tx_next ≡ None
       → first_in (λ x. near.has near.is_unsent (n.sdu x)) n.tx_next_ack n.tx_next ≡ found
       → near.served n grant ≡ option_map (near.run_of true near.is_unsent n grant) found
-  served-unsent found none e = cond-false _ _ _ (window_any n ordered (λ x. near.has near.is_pending) (λ x. refl) None none) ∙ go found e
+  served_unsent found none e = cond-false _ _ _ (window_any n ordered (λ x. near.has near.is_pending) (λ x. refl) None none) ∙ go found e
     where
       go : (f : Option ℕ) → first_in (λ x. near.has near.is_unsent (n.sdu x)) n.tx_next_ack n.tx_next ≡ f
           → cond (ltb (near.count_with near.is_unsent n) (n.tx_next_ack + near.window_size)) (Some (near.run_of true near.is_unsent n grant (near.count_with near.is_unsent n))) None
@@ -100,8 +100,8 @@ pub front_of : (test : near.Mark → Bool) (s : near.Sdu) (grant : ℕ) → near
     → Front test s (near.byte_from test s 0) (near.run_from test s (near.byte_from test s 0) grant)
 front_of test s grant has enough =
     record {
-      none_before = λ i l. seek-before (λ j. test (s.mark j)) (length s.bytes - 0) 0 i (omega arith) l;
-      all = λ i lo hi. not-false _ (seek-before (λ j. not (test (s.mark j))) (length s.bytes - from) from i lo (omega (arith, hi)));
+      none_before = λ i l. seek_before (λ j. test (s.mark j)) (length s.bytes - 0) 0 i (omega arith) l;
+      all = λ i lo hi. not-false _ (seek_before (λ j. not (test (s.mark j))) (length s.bytes - from) from i lo (omega (arith, hi)));
       some = fits.0;
       inside = fits.1;
     }
@@ -129,7 +129,7 @@ pub nothing_after : (n : near.Near) → InOrder n → (run : near.Run) (found : 
     → first_in (λ x. near.has left (cond (eqb x run.count) (near.sent_run run (n.sdu x)) (n.sdu x))) n.tx_next_ack n.tx_next ≡ found
     → near.nothing_to_send (near.marked run n) ≡ not (is_some found)
 nothing_after n ordered run found e =
-    ap (λ k. eqb k (n.tx_next_ack + near.window_size)) (seek-same (λ x. near.has left ((near.marked run n).sdu x)) after same near.window_size n.tx_next_ack)
+    ap (λ k. eqb k (n.tx_next_ack + near.window_size)) (seek_same (λ x. near.has left ((near.marked run n).sdu x)) after same near.window_size n.tx_next_ack)
     ∙ at_end after n.tx_next_ack ∙ ap not (window_any n ordered (λ x s. near.has left (cond (eqb x run.count) (near.sent_run run s) s)) none found e)
   where
     after : ℕ → Bool
@@ -164,7 +164,7 @@ module _ (n : near.Near) (ordered : InOrder n) (grant : ℕ) (enough : 5 ≤ gra
   of_test new k is l =
       record {
         front = front_of (served_as new) (n.sdu k) grant has enough;
-        low = omega (arith, is, seek-from (λ x. near.has (served_as new) (n.sdu x)) near.window_size n.tx_next_ack);
+        low = omega (arith, is, seek_from (λ x. near.has (served_as new) (n.sdu x)) near.window_size n.tx_next_ack);
         high = ⊎_elim (λ h. h) (λ h. absurd (both_ways _ (ap (near.has (served_as new)) (ordered.beyond k h)) has)) (cases_lt k n.tx_next);
         fits = (run_lengths (served_as new) (n.sdu k) grant has enough).2;
       }
@@ -196,8 +196,8 @@ module _ (n : near.Near) (ordered : InOrder n) where
   abbrev unbegun : ℕ → Bool
   unbegun x = not (begun (n.sdu x))
 
-  pub top-found : (k : ℕ) → first_in (λ x. not (begun (n.sdu x))) n.tx_next_ack n.tx_next ≡ Some k → near.top n ≡ k
-  top-found k e =
+  pub top_found : (k : ℕ) → first_in (λ x. not (begun (n.sdu x))) n.tx_next_ack n.tx_next ≡ Some k → near.top n ≡ k
+  top_found k e =
       let f = found_at unbegun n.tx_next_ack n.tx_next ordered.order k e in
       seek_is unbegun near.window_size n.tx_next_ack k f.0 (omega (arith, f.1, ordered.window)) f.3 (λ l. f.2)
 

@@ -12,10 +12,10 @@ use Rattle.std.proofs.lemmas.Bool.{cases_lt, cases_eq, cond-true, cond-false, lt
 use Rattle.wire.specs.Views.{count_of}
 
 -- one more
-pub settled-more : (first k ack count : ℕ) (touches : List Touch) (sdu after : ℕ → near.Sdu) (t : Touch) → count ≡ first + k → t ≡ touch_at touches count
+pub settled_more : (first k ack count : ℕ) (touches : List Touch) (sdu after : ℕ → near.Sdu) (t : Touch) → count ≡ first + k → t ≡ touch_at touches count
     → ((x : ℕ) → after x ≡ settled_to first (first + k) ack touches sdu x)
     → (x : ℕ) → update after count (settled (ltb count ack) (named_of t) (after count)) x ≡ settled_to first (first + (k + 1)) ack touches sdu x
-settled-more first k ack count touches sdu after t at is so_far x = ⊎_elim here other (cases_eq x count)
+settled_more first k ack count touches sdu after t at is so_far x = ⊎_elim here other (cases_eq x count)
   where
     untouched : after count ≡ sdu count
     untouched = so_far count ∙ cond-false _ _ _ (and_right (leb first count) _ (le-ltb count (first + k) (omega (arith, at))))

@@ -71,11 +71,11 @@ module _ (s : near.Sdu) (so_far more : ℕ → Bool) where
   counted_both (Some n) true b = refl
   counted_both (Some n) false b = refl
 
-  pub considered-again : considered_next (counts s.retx_count (near.newly_pending so_far s)) more (near.considered so_far s) ≡ near.considered (λ i. so_far i || more i) s
-  considered-again =
+  pub considered_again : considered_next (counts s.retx_count (near.newly_pending so_far s)) more (near.considered so_far s) ≡ near.considered (λ i. so_far i || more i) s
+  considered_again =
       let retx = retx_both s.retx_count (near.newly_pending so_far s) (near.newly_pending more (near.considered so_far s)) ∙ ap (near.considered_count s.retx_count) (sym newly_both) in
       λ k. record { bytes = s.bytes; mark = λ i. repend_both (so_far i) (more i) (s.mark i) k; acknowledged = s.acknowledged; retx_count = retx k }
 
-  pub counted-again : counted_by (counts s.retx_count (near.newly_pending so_far s)) more (near.considered so_far s) ≡ counts s.retx_count (near.newly_pending (λ i. so_far i || more i) s)
-  counted-again =
+  pub counted_again : counted_by (counts s.retx_count (near.newly_pending so_far s)) more (near.considered so_far s) ≡ counts s.retx_count (near.newly_pending (λ i. so_far i || more i) s)
+  counted_again =
       counted_both s.retx_count (near.newly_pending so_far s) (near.newly_pending more (near.considered so_far s)) ∙ ap (counts s.retx_count) (sym newly_both)

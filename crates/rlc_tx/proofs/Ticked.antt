@@ -5,10 +5,10 @@ use Rattle.protocol.specs.Settings.{Settings}
 use Rattle.protocol.specs.Timers as timers
 use Rattle.std.proofs.lemmas.Bool.{both_ways, cond-true, cond-false}
 
-pub ticked-out : (t : timers.Timer) → timers.runs_out t ≡ true → timers.ticked t ≡ timers.stopped
-ticked-out timers.stopped e = absurd (both_ways false refl e)
-ticked-out (timers.running left) e = cond-true _ _ _ e
-ticked-out timers.endless e = absurd (both_ways false refl e)
+pub ticked_out : (t : timers.Timer) → timers.runs_out t ≡ true → timers.ticked t ≡ timers.stopped
+ticked_out timers.stopped e = absurd (both_ways false refl e)
+ticked_out (timers.running left) e = cond-true _ _ _ e
+ticked_out timers.endless e = absurd (both_ways false refl e)
 
 module _ (s : Settings) (n : near.Near) (out : timers.runs_out n.polling.t_poll_retransmit ≡ true) where
   -- a poll is owed, and the timer has stopped
@@ -16,7 +16,7 @@ module _ (s : Settings) (n : near.Near) (out : timers.runs_out n.polling.t_poll_
       → near.with_polling n (record { poll_sn = n.polling.poll_sn; pdu_without_poll = n.polling.pdu_without_poll; owed = true; t_poll_retransmit = t }) ≡ near.owing n
   owing_is t is =
       ap (λ u. near.with_polling n (record { poll_sn = n.polling.poll_sn; pdu_without_poll = n.polling.pdu_without_poll; owed = true; t_poll_retransmit = u }))
-      (is ∙ ticked-out n.polling.t_poll_retransmit out)
+      (is ∙ ticked_out n.polling.t_poll_retransmit out)
 
   pub tick_repeats : near.nothing_to_send n ≡ true → near.tick_near s n ≡ near.failed_if s (near.considered_all (near.highest_sent n) (near.owing n))
   tick_repeats none = cond-true _ _ _ out ∙ cond-true _ _ _ none

@@ -13,11 +13,11 @@ encoded h bytes =
     ap (λ rest. byte (header_bytes h) 0 ∷ byte (header_bytes h) 1 ∷ rest) (append_assoc (so_field (segment_of h.segment)) [] bytes)
 
 -- the header and then the data, at the buffer's start
-pub amd-written : (h : Header) (bytes buffer : Bytes) → length (header_bytes h) + length bytes ≤ length buffer
+pub amd_written : (h : Header) (bytes buffer : Bytes) → length (header_bytes h) + length bytes ≤ length buffer
     → pdu_fault (amd (amd_of h bytes)) ≡ None
     → (Ok (length (header_bytes h) + length bytes), put_at (length (header_bytes h)) bytes (put_at 0 (header_bytes h) buffer))
     ≡ write (amd (amd_of h bytes)) buffer
-amd-written h bytes buffer fits fine =
+amd_written h bytes buffer fits fine =
     let head = header_bytes h in
     let pdu = amd (amd_of h bytes) in
     let size : length head + length bytes ≡ length (encode pdu) = sym (length-append head bytes) ∙ ap length (encoded h bytes) in

@@ -23,17 +23,17 @@ found_is bytes raw e = go (ltb (length bytes) (entry_length bytes)) e
     go false f = (refl, cc)
 
 -- the walk over a found entry
-pub along-found : {A : Type 0} (visit : Visit A) (place : ℕ) (bytes : Bytes) (raw : Raw) → found_at bytes ≡ Some raw
+pub along_found : {A : Type 0} (visit : Visit A) (place : ℕ) (bytes : Bytes) (raw : Raw) → found_at bytes ≡ Some raw
     → along visit true place bytes ≡ visit.entry place bytes (along visit raw.e1 (place + raw.size) (drop raw.size bytes))
-along-found visit place bytes raw e =
+along_found visit place bytes raw e =
     let is = found_is bytes raw e in
     along_step visit place bytes ∙ cond-false _ _ _ is.0
     ∙ ap (λ r. visit.entry place bytes (along visit r.e1 (place + r.size) (drop r.size bytes))) is.1
 
-pub listing-found : (bytes : Bytes) (raw : Raw) → found_at bytes ≡ Some raw
+pub listing_found : (bytes : Bytes) (raw : Raw) → found_at bytes ≡ Some raw
     → along listing true 3 bytes ≡ raw.entry ∷ along listing raw.e1 3 (drop raw.size bytes)
-listing-found bytes raw e =
-    along-found listing 3 bytes raw e
+listing_found bytes raw e =
+    along_found listing 3 bytes raw e
     ∙ ap (λ r. r.entry ∷ along listing raw.e1 (3 + raw.size) (drop raw.size bytes)) (found_is bytes raw e).1
     ∙ ap (λ es. raw.entry ∷ es) (listing_anywhere (length (drop raw.size bytes)) raw.e1 (3 + raw.size) 3 (drop raw.size bytes))
 
@@ -66,7 +66,7 @@ looked_at : (ack_sn place : ℕ) (rest : Bytes) (invalid : Option ℕ) (raw : Ra
     (along (valid_entries ack_sn) raw.e1 (place + raw.size) (drop raw.size rest))
 looked_at ack_sn place rest (Some p) raw e = refl
 looked_at ack_sn place rest None raw e =
-    along-found (valid_entries ack_sn) place rest raw e
+    along_found (valid_entries ack_sn) place rest raw e
     ∙ ap (λ r. cond (not r.e3 && valid_entry ack_sn r.entry) (along (valid_entries ack_sn) raw.e1 (place + raw.size) (drop raw.size rest)) (Some (at InvalidEntry place))) (found_is rest raw e).1
     ∙ chosen (not raw.e3 && valid_entry ack_sn raw.entry) place (along (valid_entries ack_sn) raw.e1 (place + raw.size) (drop raw.size rest))
 
@@ -81,7 +81,7 @@ walked_on ack_sn e1 bytes size rest invalid raw w e =
     let next : size - length rest + raw.size ≡ size - length (drop raw.size rest) = omega (arith, long, same, w.within, length-drop raw.size rest) in
     record {
       within = omega (arith, w.within, length-drop raw.size rest);
-      whole = w.whole ∙ along-found whole_entries (size - length rest) rest raw e ∙ ap (λ n. along whole_entries raw.e1 n (drop raw.size rest)) next;
+      whole = w.whole ∙ along_found whole_entries (size - length rest) rest raw e ∙ ap (λ n. along whole_entries raw.e1 n (drop raw.size rest)) next;
       valid = w.valid ∙ looked_at ack_sn (size - length rest) rest invalid raw e
           ∙ ap (λ n. first_of (noted invalid (not raw.e3 && valid_entry ack_sn raw.entry) (size - length rest)) (along (valid_entries ack_sn) raw.e1 n (drop raw.size rest))) next;
     }
@@ -142,5 +142,5 @@ status_by bytes h =
     go None None = refl
 
 -- the number in the first two bytes
-pub sn-word : (bytes : Bytes) → byte bytes 1 < 256 → word bytes 0 % 4096 ≡ sn_field bytes
-sn-word bytes h = omega arith
+pub sn_word : (bytes : Bytes) → byte bytes 1 < 256 → word bytes 0 % 4096 ≡ sn_field bytes
+sn_word bytes h = omega arith

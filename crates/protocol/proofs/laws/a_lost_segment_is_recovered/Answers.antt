@@ -5,9 +5,9 @@ use Rattle.protocol.specs.Airs.{done, kept, struck}
 use Rattle.protocol.specs.Delivery.{Acknowledged, link_after}
 use Rattle.protocol.specs.Recovery.{settings, events}
 
-all-acknowledged : (c : ℕ) → c < 1 → Acknowledged (link_after settings events) c
-all-acknowledged zero h = refl
-all-acknowledged (suc c) h = absurd (omega (arith, h))
+all_acknowledged : (c : ℕ) → c < 1 → Acknowledged (link_after settings events) c
+all_acknowledged zero h = refl
+all_acknowledged (suc c) h = absurd (omega (arith, h))
 
 pub returns : goal.returns
 returns c = (
@@ -56,6 +56,6 @@ returns c = (
   ),
   refl,
   refl,
-  (all-acknowledged, refl),
+  (all_acknowledged, refl),
   refl,
 )

@@ -1,5 +1,5 @@
-use Rattle.protocol.proofs.Formats.{written-reads-back}
+use Rattle.protocol.proofs.Formats.{written_reads_back}
 use Rattle.protocol.proofs.laws.written_pdu_reads_back.Goals as goal
 
 pub returns : goal.returns
-returns c = written-reads-back
+returns c = written_reads_back

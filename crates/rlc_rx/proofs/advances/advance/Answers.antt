@@ -1,6 +1,6 @@
 use Rattle.std.proofs.Common.{◌≡◌, ℕ, ◌%◌, ◌<◌, ◌≤◌, Bool, true, false, List, length, get_or, sym, refl, ap, ◌∙◌, arith}
 use Rattle.protocol.specs.Receiving.{complete}
-use Rattle.rlc_rx.proofs.Moves.{seen_slot, past_stays, past_moves, past-from, past_to, past_ordered}
+use Rattle.rlc_rx.proofs.Moves.{seen_slot, past_stays, past_moves, past_from, past_to, past_ordered}
 use Rattle.rlc_rx.proofs.advances.advance.Goals as goal
 use Rattle.rlc_rx.specs.Slots.{partial_of, partials}
 use Rattle.rlc_rx.specs.Windows.{sdus_in}
@@ -41,7 +41,7 @@ invariant_of-result c =
     let status_is = c.moved-2.ensures ∙ past_moves sdus high x status _ done lands in
     let ordered = past_ordered sdus high x (omega (arith, c.requires.seen)) next status c.requires.from c.args.counters.status_from c.requires.waits in
     let to = past_to sdus high x (omega (arith, c.requires.seen)) status c.args.counters.status_to in
-    let from = past-from sdus high x (omega (arith, c.requires.seen)) next in
+    let from = past_from sdus high x (omega (arith, c.requires.seen)) next in
     record {
       status_from = omega (arith, next_is, status_is, ordered);
       status_to = omega (arith, status_is, to);

@@ -2,7 +2,7 @@ use Rattle.std.proofs.Common.{◌≡◌, ◌-◌, ◌≤◌, not, ap, ◌∙◌,
 use Rattle.protocol.specs.Receiving.{nothing_held, complete}
 use Rattle.protocol.specs.Rings.{in_ring}
 use Rattle.protocol.specs.Searching.{seek}
-use Rattle.protocol.proofs.Seeks.{seek-from}
+use Rattle.protocol.proofs.Seeks.{seek_from}
 use Rattle.rlc_rx.proofs.Moves.{open_is}
 use Rattle.rlc_rx.proofs.advances.open_from.Goals as goal
 use Rattle.rlc_rx.specs.Slots.{partials}
@@ -10,7 +10,7 @@ use Rattle.wire.specs.Views.{count_of}
 
 pub overflow_sub-found : goal.overflow_sub-found
 overflow_sub-found c =
-    omega (arith, c.incomplete_from-found.ensures, seek-from (λ y. not (complete (in_ring (partials c.args.slots.now) y nothing_held))) (c.value.result - c.value-start.result) c.value-start.result)
+    omega (arith, c.incomplete_from-found.ensures, seek_from (λ y. not (complete (in_ring (partials c.args.slots.now) y nothing_held))) (c.value.result - c.value-start.result) c.value-start.result)
 
 pub returns : goal.returns
 returns c =
@@ -20,6 +20,6 @@ returns c =
     let ring = partials c.args.slots.now in
     let found = c.incomplete_from-found.ensures ∙ ap (λ z. seek (λ y. not (complete (in_ring ring y nothing_held))) (z - c.value-start.result) c.value-start.result) c.value.ensures
     ∙ ap (λ z. seek (λ y. not (complete (in_ring ring y nothing_held))) (high - z) z) c.value-start.ensures in
-    let low : x ≤ c.incomplete_from-found.result = omega (arith, found, seek-from (λ y. not (complete (in_ring ring y nothing_held))) (high - x) x) in
+    let low : x ≤ c.incomplete_from-found.result = omega (arith, found, seek_from (λ y. not (complete (in_ring ring y nothing_held))) (high - x) x) in
     let reached : count_of c.later.result ≡ c.incomplete_from-found.result = omega (arith, c.later.ensures, c.value-start.ensures, low) in
     reached ∙ found ∙ open_is next high x ring c.requires.from

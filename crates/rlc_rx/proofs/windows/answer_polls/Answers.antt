@@ -2,7 +2,7 @@ use Rattle.std.proofs.Common.{◌≡◌, ◌+◌, ◌-◌, ◌%◌, ◌<◌, fal
 use Rattle.protocol.specs.Rings.{in_ring}
 use Rattle.protocol.specs.Searching.{seek}
 use Rattle.rlc_rx.proofs.Places.{ring_read, cleared_none, cleared_more}
-use Rattle.rlc_rx.proofs.Seeking.{seek-more, seek_over}
+use Rattle.rlc_rx.proofs.Seeking.{seek_more, seek_over}
 use Rattle.rlc_rx.proofs.windows.answer_polls.Goals as goal
 use Rattle.rlc_rx.specs.Slots.{partial_of, partials, polls}
 use Rattle.rlc_rx.specs.Windows.{Cleared}
@@ -34,7 +34,7 @@ loop-x-preserved c =
     ∙ set-get_or (partials slots) (x % 16) (partial_of d) ∙ c.loop-x.invariant.1 in
     let flags = cleared_more false from x (polls old) (polls slots) slot.poll (length-map old (λ s. s.poll) ∙ c.told-slots) c.loop-x.auto.x near c.answer_poll-asked.ensures.poll c.loop-x.invariant.2 in (
       joined ∙ ap (λ b. b || c.answer_poll-asked.result) c.loop-x.invariant.0
-          ∙ ap (λ b. ltb (seek (λ y. in_ring (polls old) y false) (x - from) from) x || b) asked ∙ sym (seek-more (λ y. in_ring (polls old) y false) from x c.loop-x.auto.x),
+          ∙ ap (λ b. ltb (seek (λ y. in_ring (polls old) y false) (x - from) from) x || b) asked ∙ sym (seek_more (λ y. in_ring (polls old) y false) from x c.loop-x.auto.x),
       same,
       subst (λ ps. Cleared false from (x + 1) (polls old) ps) (sym (map-set (λ s. s.poll) slots (x % 16) slot)) flags,
       length-set slots (x % 16) slot ∙ size,

@@ -1,5 +1,5 @@
 use Rattle.std.proofs.Common.{◌+◌, cond, ◌++◌, map, get_or, take, drop, set, count_by, sym, ap, ◌∙◌, arith}
-use Rattle.rlc_tx.proofs.Replaced.{replaced-more}
+use Rattle.rlc_tx.proofs.Replaced.{replaced_more}
 use Rattle.rlc_tx.proofs.marking.replace.Goals as goal
 use Rattle.rlc_tx.proofs.marking.replace.Goals.{then-is, else-is}
 use Rattle.rlc_tx.specs.Marks.{same, replaced}
@@ -21,7 +21,7 @@ pub loop-mark-preserved : goal.loop-mark-preserved
 loop-mark-preserved c =
     let ys = c.loop-mark.marks in
     let i = c.loop-mark.mark-index in
-    let more = replaced-more c.args.old c.args.new c.args.marks.now ys i c.loop-mark.changed c.is.result c.loop-mark-test.true
+    let more = replaced_more c.args.old c.args.new c.args.marks.now ys i c.loop-mark.changed c.is.result c.loop-mark-test.true
     c.loop-mark.auto.marks c.loop-mark.invariant c.is.ensures in
     elim c.if-is.branch [
       | then-is w ↦ (

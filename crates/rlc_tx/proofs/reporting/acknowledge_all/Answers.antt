@@ -1,5 +1,5 @@
 use Rattle.std.proofs.Common.{◌≡◌, ◌+◌, get_or, ap, ◌∙◌, arith}
-use Rattle.rlc_tx.proofs.Settled.{settled-more}
+use Rattle.rlc_tx.proofs.Settled.{settled_more}
 use Rattle.rlc_tx.proofs.reporting.acknowledge_all.Goals as goal
 use Rattle.rlc_tx.specs.Touches.{settled_to}
 use Rattle.rlc_tx.specs.Windows.{sdus_in}
@@ -13,7 +13,7 @@ loop-k-preserved c =
       c.acknowledge_one.ensures.ring,
       λ x.
           c.acknowledge_one.ensures.sdus x
-          ∙ settled-more (count_of w.tx_next_ack) c.loop-k.k (count_of c.args.ack) (count_of c.count-count.result) touches (sdus_in c.args.slots.now w) (sdus_in c.loop-k.slots w)
+          ∙ settled_more (count_of w.tx_next_ack) c.loop-k.k (count_of c.args.ack) (count_of c.count-count.result) touches (sdus_in c.args.slots.now w) (sdus_in c.loop-k.slots w)
           (get_or touches c.place.result Unnamed) c.count-count.ensures (ap (λ i. get_or touches i Unnamed) c.place.ensures) c.loop-k.invariant.1 x,
     )
 

@@ -1,6 +1,6 @@
 use Rattle.std.proofs.Common.{◌≡◌, ◌%◌, [], ◌∷◌, ◌++◌, sym, refl, ap, ◌∙◌, append_assoc}
 use Rattle.protocol.specs.Sending.{considered_in, named}
-use Rattle.rlc_tx.proofs.Progress.{stage_none, stage_more, front-some, front_none, all_unnamed}
+use Rattle.rlc_tx.proofs.Progress.{stage_none, stage_more, front_some, front_none, all_unnamed}
 use Rattle.rlc_tx.proofs.reporting.consider_entries.Goals as goal
 use Rattle.rlc_tx.specs.Windows.{bare}
 use Rattle.std.proofs.lemmas.List.{append-nil}
@@ -16,7 +16,7 @@ loop-entry-preserved c =
       done ++ e ∷ [],
       stage_more c.args.slots.now c.loop-entry.slots c.consider_entry.new.slots c.args.window done e c.loop-entry.touches c.consider_entry.new.touches c.loop-entry.invariant.1
           c.consider_entry.ensures.sdus c.consider_entry.ensures.places c.consider_entry.ensures.touches,
-      append_assoc done (e ∷ []) (entries_of c.next.new.self) ∙ ap (λ xs. done ++ xs) (sym (front-some (entries_of c.loop-entry.entries) (entries_of c.next.new.self) e c.in-Some.ensures)) ∙ c.loop-entry.invariant.2,
+      append_assoc done (e ∷ []) (entries_of c.next.new.self) ∙ ap (λ xs. done ++ xs) (sym (front_some (entries_of c.loop-entry.entries) (entries_of c.next.new.self) e c.in-Some.ensures)) ∙ c.loop-entry.invariant.2,
     )
 
 pub returns : goal.returns

@@ -6,7 +6,7 @@ use Rattle.protocol.specs.Reading.{along, listing, e1_field, sn_field, read_stat
 use Rattle.protocol.specs.declared.faults.Fault.{Fault}
 use Rattle.std.proofs.lemmas.List.{take_rest}
 use Rattle.std.proofs.lemmas.Result.{err_from_is_err_and}
-use Rattle.wire.proofs.Steps.{status_by, sn-word, answered}
+use Rattle.wire.proofs.Steps.{status_by, sn_word, answered}
 use Rattle.wire.proofs.reading.read_status.Goals as goal
 use Rattle.wire.specs.Views.{sn_of, checked_entries, read_of, Placed}
 
@@ -23,7 +23,7 @@ pub returns-in_err-check_entries : goal.returns-in_err-check_entries
 returns-in_err-check_entries c =
     let bytes = c.args.bytes.now in
     let small : byte bytes 1 < 256 = omega (arith, c.type_inv.bytes 1) in
-    let sn = c.new-ack_sn.ensures ∙ ap (λ n. n % 4096) c.word.ensures ∙ sn-word bytes small in
+    let sn = c.new-ack_sn.ensures ∙ ap (λ n. n % 4096) c.word.ensures ∙ sn_word bytes small in
     let p = err_from_is_err_and c.from_residual.result c.from_residual.ensures.1 in
     record {
       value =
@@ -36,7 +36,7 @@ pub returns : goal.returns
 returns c =
     let bytes = c.args.bytes.now in
     let small : byte bytes 1 < 256 = omega (arith, c.type_inv.bytes 1) in
-    let sn = c.new-ack_sn.ensures ∙ ap (λ n. n % 4096) c.word.ensures ∙ sn-word bytes small in
+    let sn = c.new-ack_sn.ensures ∙ ap (λ n. n % 4096) c.word.ensures ∙ sn_word bytes small in
     record {
       value =
           sym

@@ -1,7 +1,7 @@
 use Rattle.std.proofs.Common.{◌≡◌, ◌+◌, ◌-◌, ◌≤◌, length, take, Ok, sym, ap, ◌∙◌, arith}
 use native.Mathlib.Nat.{sub-zero}
 use Rattle.protocol.specs.Bytes.{put_at}
-use Rattle.wire.proofs.Packing.{amd-written}
+use Rattle.wire.proofs.Packing.{amd_written}
 use Rattle.wire.proofs.writing.write_amd.Goals as goal
 use Rattle.wire.specs.Views.{header_bytes}
 
@@ -18,4 +18,4 @@ returns c =
     let second = c.put_bytes-2.ensures ∙ ap (λ n. put_at n bytes c.put_bytes.new.buffer) size ∙ ap (put_at (length head) bytes) first in
     let fits : length head + length bytes ≤ length buffer = omega arith in
     ap (λ n. (Ok (n + length bytes), c.put_bytes-2.new.buffer)) size ∙ ap (λ b. (Ok (length head + length bytes), b)) second
-    ∙ amd-written c.args.header bytes buffer fits (sym c.in_default.ensures)
+    ∙ amd_written c.args.header bytes buffer fits (sym c.in_default.ensures)

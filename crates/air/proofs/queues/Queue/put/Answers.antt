@@ -3,7 +3,7 @@ use Rattle.air.specs.Soundness.{length_held}
 use Rattle.air.proofs.Fronts.{length_waits}
 use Rattle.air.proofs.Lets.{within_put}
 use Rattle.air.proofs.Notes.{each_removed}
-use Rattle.air.proofs.Pushes.{newest-short, newest-room, newest_full}
+use Rattle.air.proofs.Pushes.{newest_short, newest_room, newest_full}
 use Rattle.air.proofs.queues.Queue.put.Goals as goal
 use Rattle.air.proofs.queues.Queue.put.Goals.{then-self-eq-CAPACITY, else-self-eq-CAPACITY}
 use Rattle.air.specs.Kept.{newest, put_in}
@@ -18,7 +18,7 @@ pub returns-then-not-carries : goal.returns-then-not-carries
 returns-then-not-carries c =
     let q = c.grow_older.new.self in
     let after : waits q ≡ put_in c.args.pdu.now (waits c.args.self.now) =
-    sym (newest-short (waits q) (omega (arith, length_waits q, q.bounded.1)))
+    sym (newest_short (waits q) (omega (arith, length_waits q, q.bounded.1)))
     ∙ ap newest (c.grow_older.ensures.after ∙ sym (after_put_no c.args.pdu.now (waits c.args.self.now) (sym c.if-not-carries.ensures))) in
     record { after = after; meaning = within_put c.args.pdu.now (waits c.args.self.now) (waits q) after }
 
@@ -48,7 +48,7 @@ returns c =
     let added : waits c.if-self-eq-CAPACITY.self ++ new ∷ [] ≡ newest (waits q ++ new ∷ []) =
     elim c.if-self-eq-CAPACITY.branch [
       | then-self-eq-CAPACITY w ↦ ap (λ q. waits q ++ new ∷ []) w.self-is ∙ ap (λ ws. ws ++ new ∷ []) w.remove.ensures.after ∙ newest_full (waits q) new (length_waits q ∙ w.if-self-eq-CAPACITY.true)
-      | else-self-eq-CAPACITY w ↦ ap (λ q. waits q ++ new ∷ []) w.self-is ∙ newest-room (waits q) new (omega (arith, length_waits q, w.if-self-eq-CAPACITY.false, q.bounded.1))
+      | else-self-eq-CAPACITY w ↦ ap (λ q. waits q ++ new ∷ []) w.self-is ∙ newest_room (waits q) new (omega (arith, length_waits q, w.if-self-eq-CAPACITY.false, q.bounded.1))
     ] in
     let after : waits c.push.new.self ≡ put_in c.args.pdu.now (waits c.args.self.now) =
     c.push.ensures ∙ added ∙ ap (λ ws. newest (ws ++ new ∷ [])) c.grow_older.ensures.after

@@ -1,5 +1,5 @@
 use Rattle.std.proofs.Common.{◌+◌, sym, subst, arith}
-use Rattle.pdcp.proofs.Orders.{none_due, below-insert}
+use Rattle.pdcp.proofs.Orders.{none_due, below_insert}
 use Rattle.pdcp.proofs.Rising.{store_rises}
 use Rattle.pdcp.proofs.receivers.Receiver.keep.Goals as goal
 use Rattle.pdcp.specs.Stores.{stored_of, Below}
@@ -21,11 +21,11 @@ insert-requires c =
 pub invariant_of-self : goal.invariant_of-self
 invariant_of-self c =
     let r = c.args.self.now in
-    let below = subst (Below (r.rx_deliv.value + 16)) (sym c.insert.ensures) (below-insert (r.rx_deliv.value + 16) _ (stored_of r.store) r.within c.requires.to) in
+    let below = subst (Below (r.rx_deliv.value + 16)) (sym c.insert.ensures) (below_insert (r.rx_deliv.value + 16) _ (stored_of r.store) r.within c.requires.to) in
     record { delivered = omega arith; begun = omega arith; limited = omega arith; timed = r.timed; within = below }
 
 pub invariant_of-self-else-value : goal.invariant_of-self-else-value
 invariant_of-self-else-value c =
     let r = c.args.self.now in
-    let below = subst (Below (r.rx_deliv.value + 16)) (sym c.insert.ensures) (below-insert (r.rx_deliv.value + 16) _ (stored_of r.store) r.within c.requires.to) in
+    let below = subst (Below (r.rx_deliv.value + 16)) (sym c.insert.ensures) (below_insert (r.rx_deliv.value + 16) _ (stored_of r.store) r.within c.requires.to) in
     record { delivered = r.delivered; begun = r.begun; limited = r.limited; timed = r.timed; within = below }

@@ -3,7 +3,7 @@ use Rattle.pdcp.proofs.Orders.{missing_within}
 use Rattle.pdcp.proofs.Takings.{out_stops}
 use Rattle.pdcp.proofs.receivers.Receiver.tick.Goals as goal
 use Rattle.pdcp.specs.Stores.{stored_of}
-use Rattle.protocol.proofs.PdcpKept.{runs-before}
+use Rattle.protocol.proofs.PdcpKept.{runs_before}
 use Rattle.protocol.specs.Timers.{runs, runs_out}
 use Rattle.std.proofs.lemmas.Bool.{both_ways}
 use Rattle.timers.specs.Views.{timer_of}
@@ -16,7 +16,7 @@ invariant_of-self-then-tick c =
     let bounds = missing_within (stored_of r.store) r.rx_next.value reord r.begun in
     let same = c.next_missing-deliv.ensures in
     let out : runs_out t ≡ true = sym c.if-tick.ensures.1 in
-    let before : r.rx_deliv.value ≤ reord = r.timed (runs-before t out) in
+    let before : r.rx_deliv.value ≤ reord = r.timed (runs_before t out) in
     record {
       delivered = omega (arith, same, bounds.1);
       begun = r.begun;

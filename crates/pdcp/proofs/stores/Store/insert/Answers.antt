@@ -1,5 +1,5 @@
 use Rattle.std.proofs.Common.{◌≡◌, ℕ, ◌%◌, ap, ◌∙◌, arith, length-set}
-use Rattle.pdcp.proofs.Windows.{held-insert, each_set}
+use Rattle.pdcp.proofs.Windows.{held_insert, each_set}
 use Rattle.pdcp.proofs.stores.Store.insert.Goals as goal
 use Rattle.pdcp.specs.Places.{Wide, Inside}
 use Rattle.pdcp.specs.Stores.{stored_of}
@@ -30,6 +30,6 @@ returns c =
     let reached = c.reach.ensures.reached in
     let before = c.reach.ensures.same in
     let entry : ℕ → Stored = λ m. record { count = m; packet = c.args.packet.now } in
-    held-insert s.places s.first n s.sized (omega (arith, reached.0, same, c.value.ensures)) (omega (arith, reached.1, same, c.value.ensures)) c.fill.new.self
+    held_insert s.places s.first n s.sized (omega (arith, reached.0, same, c.value.ensures)) (omega (arith, reached.1, same, c.value.ensures)) c.fill.new.self
     c.args.packet.now c.fill.ensures.holds (ap (is_stored (stored_of s)) same ∙ ap (λ ss. is_stored ss c.args.count.value) before ∙ c.requires.new)
     ∙ ap (λ m. insert (entry m) (stored_of s)) same ∙ ap (insert (entry c.args.count.value)) before

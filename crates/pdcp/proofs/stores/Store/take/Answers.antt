@@ -1,5 +1,5 @@
 use Rattle.std.proofs.Common.{◌≡◌, ◌+◌, ◌%◌, ◌<◌, ◌≤◌, true, false, sym, ap, ◌∙◌, subst, length-set}
-use Rattle.pdcp.proofs.Windows.{found_none, out_of_window, held-taken, under_is, each_set}
+use Rattle.pdcp.proofs.Windows.{found_none, out_of_window, held_taken, under_is, each_set}
 use Rattle.pdcp.proofs.stores.Store.take.Goals as goal
 use Rattle.pdcp.specs.Places.{Wide, Inside, has_place, copied_out}
 use Rattle.pdcp.specs.Stores.{stored_of, taken, taken_if}
@@ -32,7 +32,7 @@ returns c =
     let same : c.value.result ≡ n = c.value.ensures ∙ sym c.value-2.ensures in
     let reached : has_place s.first c.value.result ≡ true = sym c.if-not-reaches.ensures in
     let within = and_parts _ _ reached in
-    held-taken s.places s.first n s.sized (subst (λ m. s.first ≤ m) same (leb-true _ _ within.0)) (subst (λ m. m < s.first + 16) same (ltb-true _ _ within.1))
+    held_taken s.places s.first n s.sized (subst (λ m. s.first ≤ m) same (leb-true _ _ within.0)) (subst (λ m. m < s.first + 16) same (ltb-true _ _ within.1))
     c.copy_out.new.self c.copy_out.result c.args.buffer.now c.copy_out.new.buffer
     (c.copy_out.ensures.value ∙ ap (λ o. copied_out o c.args.buffer.now) (sym (under_is s.places n s.sized)))
     ∙ ap (λ m. taken m c.args.buffer.now (stored_of s)) c.value-2.ensures

@@ -2,7 +2,7 @@ use Rattle.std.proofs.Common.{◌≡◌, ◌-◌, false, ltb, refl, ap, ◌∙�
 use Rattle.protocol.specs.Receiving.{nothing_held}
 use Rattle.protocol.specs.Rings.{in_ring}
 use Rattle.protocol.specs.Searching.{seek}
-use Rattle.rlc_rx.proofs.Takes.{Keeps, Moves, waits, kept_there, status-low, status-top, waits-then, triggered-then, absorbed}
+use Rattle.rlc_rx.proofs.Takes.{Keeps, Moves, waits, kept_there, status_low, status_top, waits_then, triggered_then, absorbed}
 use Rattle.rlc_rx.proofs.ends.FarEnd.absorb.Goals as goal
 use Rattle.rlc_rx.specs.Reports.{reporting_of}
 use Rattle.rlc_rx.specs.Slots.{partials, polls}
@@ -29,8 +29,8 @@ answer_polls-answered-requires c =
     let s = c.move_past-after.ensures in
     let m : Moves e x slots k = record { next_is = s.next; high_is = s.highest; status_is = s.status; trigger_is = s.trigger } in
     record {
-      window = omega (arith, c.value.ensures, c.value-2.ensures, status-top e x a slots h k m);
-      ordered = omega (arith, c.value.ensures, c.value-2.ensures, status-low e x a slots h k m);
+      window = omega (arith, c.value.ensures, c.value-2.ensures, status_top e x a slots h k m);
+      ordered = omega (arith, c.value.ensures, c.value-2.ensures, status_low e x a slots h k m);
     }
 
 pub invariant_of-self : goal.invariant_of-self
@@ -44,8 +44,8 @@ invariant_of-self c =
     let s = c.move_past-after.ensures in
     let m : Moves e x slots k = record { next_is = s.next; high_is = s.highest; status_is = s.status; trigger_is = s.trigger } in
     record {
-      waits = waits-then e x a slots h k m (partials c.answer_polls-answered.new.slots) c.answer_polls-answered.ensures.sdus;
-      triggered = triggered-then e x a slots h k m c.is_settled-settled.result (timer_of c.stop_if.new.self) c.is_settled-settled.ensures c.stop_if.ensures;
+      waits = waits_then e x a slots h k m (partials c.answer_polls-answered.new.slots) c.answer_polls-answered.ensures.sdus;
+      triggered = triggered_then e x a slots h k m c.is_settled-settled.result (timer_of c.stop_if.new.self) c.is_settled-settled.ensures c.stop_if.ensures;
     }
 
 pub returns : goal.returns

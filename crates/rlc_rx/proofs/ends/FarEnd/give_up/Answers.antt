@@ -1,7 +1,7 @@
 use Rattle.std.proofs.Common.{false, refl, ap, ◌∙◌, subst, arith}
 use Rattle.protocol.specs.Receiving.{complete, awaited}
 use Rattle.protocol.specs.Timers.{stopped}
-use Rattle.rlc_rx.proofs.GivesUp.{reported-low, reported-high, reported-waits, given_up_is}
+use Rattle.rlc_rx.proofs.GivesUp.{reported_low, reported_high, reported_waits, given_up_is}
 use Rattle.rlc_rx.proofs.ends.FarEnd.give_up.Goals as goal
 use Rattle.rlc_rx.specs.Reports.{reporting_of}
 use Rattle.rlc_rx.specs.Slots.{partials, polls}
@@ -14,8 +14,8 @@ pub answer_polls-requires : goal.answer_polls-requires
 answer_polls-requires c =
     let k = c.args.self.now.counters in
     let sdus = partials c.args.self.now.slots in
-    let low = reported-low (count_of k.rx_next) (count_of k.rx_next_highest) (count_of k.rx_next_status_trigger) sdus c.requires k.trigger in
-    let top = reported-high (count_of k.rx_next) (count_of k.rx_next_highest) (count_of k.rx_next_status_trigger) sdus c.requires k.trigger in
+    let low = reported_low (count_of k.rx_next) (count_of k.rx_next_highest) (count_of k.rx_next_status_trigger) sdus c.requires k.trigger in
+    let top = reported_high (count_of k.rx_next) (count_of k.rx_next_highest) (count_of k.rx_next_status_trigger) sdus c.requires k.trigger in
     record {
       window = omega (arith, c.value.ensures, c.value-2.ensures, c.open_from-status.ensures, top, k.window);
       ordered = omega (arith, c.value.ensures, c.value-2.ensures, c.open_from-status.ensures, low);
@@ -25,8 +25,8 @@ pub invariant_of-self : goal.invariant_of-self
 invariant_of-self c =
     let k = c.args.self.now.counters in
     let sdus = partials c.args.self.now.slots in
-    let low = reported-low (count_of k.rx_next) (count_of k.rx_next_highest) (count_of k.rx_next_status_trigger) sdus c.requires k.trigger in
-    let top = reported-high (count_of k.rx_next) (count_of k.rx_next_highest) (count_of k.rx_next_status_trigger) sdus c.requires k.trigger in
+    let low = reported_low (count_of k.rx_next) (count_of k.rx_next_highest) (count_of k.rx_next_status_trigger) sdus c.requires k.trigger in
+    let top = reported_high (count_of k.rx_next) (count_of k.rx_next_highest) (count_of k.rx_next_status_trigger) sdus c.requires k.trigger in
     record {
       status_from = omega (arith, c.open_from-status.ensures, low);
       status_to = omega (arith, c.open_from-status.ensures, top);
@@ -44,7 +44,7 @@ invariant_of-self-2 c =
       waits =
           ap (λ ps. complete (sdus_in next high ps (count_of c.open_from-status.result))) c.answer_polls.ensures.sdus
           ∙ ap (λ z. complete (sdus_in next high (partials c.args.self.now.slots) z)) c.open_from-status.ensures
-          ∙ reported-waits next high (count_of k.rx_next_status_trigger) (partials c.args.self.now.slots) c.requires k.trigger;
+          ∙ reported_waits next high (count_of k.rx_next_status_trigger) (partials c.args.self.now.slots) c.requires k.trigger;
       triggered = λ e. absurd (both_ways false refl e);
     }
 

@@ -2,7 +2,7 @@ use Rattle.std.proofs.Common.{◌≡◌, ◌+◌, ◌-◌, ◌<◌, ◌≤◌, t
 use Rattle.protocol.specs.Drafts.{fill}
 use Rattle.protocol.specs.Receiving as far
 use Rattle.protocol.specs.declared.faults.Fault.{Fault}
-use Rattle.rlc_rx.proofs.Listing.{report-at, fill-behind, report-complete, report_stops, report_lists, report_over}
+use Rattle.rlc_rx.proofs.Listing.{report_at, fill_behind, report_complete, report_stops, report_lists, report_over}
 use Rattle.rlc_rx.proofs.ends.FarEnd.list_missing.Goals as goal
 use Rattle.rlc_rx.specs.Slots.{partial_of}
 use Rattle.rlc_rx.specs.Spending.{Listed}
@@ -17,8 +17,8 @@ pub loop-x-init : goal.loop-x-init
 loop-x-init c =
     let f = far_of c.args.self.now in
     let start = sym c.value-start.ensures in (
-      ap (λ y. (report-at f f.rx_highest_status y c.args.most).ack) start,
-      ap (λ y. fill (report-at f f.rx_highest_status y c.args.most).entries (draft_of c.args.draft.now) c.args.buffer.now) start,
+      ap (λ y. (report_at f f.rx_highest_status y c.args.most).ack) start,
+      ap (λ y. fill (report_at f f.rx_highest_status y c.args.most).entries (draft_of c.args.draft.now) c.args.buffer.now) start,
       omega arith,
     )
 
@@ -30,7 +30,7 @@ loop-x-preserved-then-is_complete c =
     let inv = c.loop-x.invariant in
     let more : x < f.rx_highest_status = omega (arith, c.value-x-end.ensures, c.loop-x-test.true) in
     let done : far.complete (f.sdu x) ≡ true = sym (ap far.complete c.slot_at-slot.ensures) ∙ sym c.is_complete.ensures ∙ c.if-is_complete.true in
-    let on = report-complete f f.rx_highest_status x room more done in
+    let on = report_complete f f.rx_highest_status x room more done in
     (inv.0 ∙ ap (λ r. r.ack) on, inv.1 ∙ ap (λ r. fill r.entries (draft_of c.loop-x.draft) c.loop-x.buffer) on, inv.2)
 
 pub returns-then-length-room : goal.returns-then-length-room
@@ -65,11 +65,11 @@ returns-in_err-add_entries c =
     let lists = report_lists f f.rx_highest_status x room more lacks (omega (arith, c.if-length-room.false, size)) in
     let at : count_of c.later-count.result ≡ x = omega (arith, c.later-count.ensures, c.value-start.ensures, c.loop-x.auto.x) in
     let adds = c.in_err-add_entries.ensures ∙ ap (λ y. fill (far.sdu_entries y (partial_of c.slot_at-slot.result.now)) d b) at ∙ ap (λ p. fill (far.sdu_entries x p) d b) c.slot_at-slot.ensures in
-    let rest = (report-at f f.rx_highest_status (x + 1) (room - far.entries_length own)).entries in
+    let rest = (report_at f f.rx_highest_status (x + 1) (room - far.entries_length own)).entries in
     let out = err_from_is_err_and c.from_residual.result c.from_residual.ensures.1 in
     let is : c.from_residual.result ≡ Err fault = out.1 ∙ ap {B = Result (Count Rlc) Fault} Err out.2 in
-    let whole = inv.1 ∙ ap (λ r. fill r.entries d b) lists ∙ fill-behind own rest d d' b b' (Err fault) adds in
-    subst (λ r. Listed (report-at f f.rx_highest_status f.rx_next c.args.most) (draft_of c.args.draft.now) c.args.buffer.now r d' b') (sym is) whole
+    let whole = inv.1 ∙ ap (λ r. fill r.entries d b) lists ∙ fill_behind own rest d d' b b' (Err fault) adds in
+    subst (λ r. Listed (report_at f f.rx_highest_status f.rx_next c.args.most) (draft_of c.args.draft.now) c.args.buffer.now r d' b') (sym is) whole
 
 pub loop-x-preserved : goal.loop-x-preserved
 loop-x-preserved c =
@@ -86,11 +86,11 @@ loop-x-preserved c =
     let lacks : far.complete (f.sdu x) ≡ false = sym (ap far.complete c.slot_at-slot.ensures) ∙ sym c.is_complete.ensures ∙ c.if-is_complete.false in
     let size : c.entries_length-length.result ≡ far.entries_length own = c.entries_length-length.ensures x ∙ ap (λ p. far.entries_length (far.sdu_entries x p)) c.slot_at-slot.ensures in
     let lists = report_lists f f.rx_highest_status x room more lacks (omega (arith, c.if-length-room.false, size))
-    ∙ ap (λ n. far.behind own (report-at f f.rx_highest_status (x + 1) (room - n))) (sym size) in
+    ∙ ap (λ n. far.behind own (report_at f f.rx_highest_status (x + 1) (room - n))) (sym size) in
     let at : count_of c.later-count.result ≡ x = omega (arith, c.later-count.ensures, c.value-start.ensures, c.loop-x.auto.x) in
     let adds = c.in_ok-add_entries.ensures ∙ ap (λ y. fill (far.sdu_entries y (partial_of c.slot_at-slot.result.now)) d b) at ∙ ap (λ p. fill (far.sdu_entries x p) d b) c.slot_at-slot.ensures in
-    let rest = (report-at f f.rx_highest_status (x + 1) (room - c.entries_length-length.result)).entries in
-    (inv.0 ∙ ap (λ r. r.ack) lists, inv.1 ∙ ap (λ r. fill r.entries d b) lists ∙ fill-behind own rest d d' b b' (Ok tt) adds, omega (arith, inv.2))
+    let rest = (report_at f f.rx_highest_status (x + 1) (room - c.entries_length-length.result)).entries in
+    (inv.0 ∙ ap (λ r. r.ack) lists, inv.1 ∙ ap (λ r. fill r.entries d b) lists ∙ fill_behind own rest d d' b b' (Ok tt) adds, omega (arith, inv.2))
 
 pub returns : goal.returns
 returns c =

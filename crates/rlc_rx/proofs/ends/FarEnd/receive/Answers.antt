@@ -2,7 +2,7 @@ use Rattle.std.proofs.Common.{◌≡◌, false, ◌||◌, leb, Ok, Result, sym, 
 use Rattle.protocol.specs.Receiving as far
 use Rattle.protocol.specs.Sending.{packet_limit}
 use Rattle.protocol.specs.declared.faults.Fault.{Fault}
-use Rattle.rlc_rx.proofs.Arrives.{receives-takes}
+use Rattle.rlc_rx.proofs.Arrives.{receives_takes}
 use Rattle.rlc_rx.proofs.ends.FarEnd.receive.Goals as goal
 use Rattle.rlc_rx.specs.Receptions.{reception_of, outcome}
 use Rattle.rlc_rx.specs.Views.{far_of}
@@ -24,6 +24,6 @@ returns c =
     let both : ◌≡◌ {A = Result far.Reception Fault × far.Far} (Ok (reception_of c.take.new.self c.hand_up.result), far_of c.take.new.self)
     (Ok (far.reception (far.received a (f.sdu x))), far.taken s x a f) = λ k. (Ok (handed k), c.take.ensures.state k) in
     record {
-      answer = both ∙ ap (outcome f) (sym (receives-takes s x a f new fits)) ∙ ap (λ z. outcome f (far.receives s z a f)) c.rx_count-x.ensures;
+      answer = both ∙ ap (outcome f) (sym (receives_takes s x a f new fits)) ∙ ap (λ z. outcome f (far.receives s z a f)) c.rx_count-x.ensures;
       settings = c.take.ensures.settings;
     }

@@ -2,7 +2,7 @@ use Rattle.std.proofs.Common.{◌≡◌, ℕ, ◌+◌, ◌%◌, ◌<◌, ◌≤�
 use Rattle.protocol.specs.Drafts.{Draft, Step, opened, fill, close}
 use Rattle.protocol.specs.Receiving as far
 use Rattle.protocol.specs.declared.faults.Fault.{Fault}
-use Rattle.rlc_rx.proofs.Writes.{sdus-short, filled, closes}
+use Rattle.rlc_rx.proofs.Writes.{sdus_short, filled, closes}
 use Rattle.rlc_rx.proofs.ends.FarEnd.write_report.Goals as goal
 use Rattle.rlc_rx.specs.Views.{far_of}
 use Rattle.rlc_rx.specs.declared.ends.FarEnd.{FarEnd}
@@ -12,7 +12,7 @@ use Rattle.protocol.specs.Bytes.{Bytes, put}
 use Rattle.protocol.specs.Pdus.{encode}
 
 short : (e : FarEnd) (y : ℕ) → (far_of e).rx_next ≤ y → y < (far_of e).rx_highest_status → far.limit ((far_of e).sdu y) < 65536
-short e y lo hi = sdus-short (count_of e.counters.rx_next) (count_of e.counters.rx_next_highest) e.slots y lo (omega (arith, hi, e.counters.status_to))
+short e y lo hi = sdus_short (count_of e.counters.rx_next) (count_of e.counters.rx_next_highest) e.slots y lo (omega (arith, hi, e.counters.status_to))
 
 near : (e : FarEnd) → (far_of e).rx_highest_status ≤ (far_of e).rx_next + 16
 near e = omega (arith, e.counters.status_to, e.counters.window)

@@ -2,7 +2,7 @@ use Rattle.std.proofs.Common.{◌≡◌, ℕ, ◌-◌, ◌%◌, Err, Result, sym
 use Rattle.protocol.specs.Drafts.{Step, add, fill}
 use Rattle.protocol.specs.Pdus.{Entry, every, span}
 use Rattle.protocol.specs.Receiving.{sdu_entries}
-use Rattle.rlc_rx.proofs.Stretches.{Lasts, lasts_first, fills_on, fills_stop, left_less, limit-short, entries_none, entries-some, fill_one}
+use Rattle.rlc_rx.proofs.Stretches.{Lasts, lasts_first, fills_on, fills_stop, left_less, limit_short, entries_none, entries_some, fill_one}
 use Rattle.rlc_rx.proofs.slots.Slot.add_entries.Goals as goal
 use Rattle.rlc_rx.specs.Gaps.{stretch_of, gaps_on}
 use Rattle.rlc_rx.specs.Slots.{partial_of}
@@ -27,8 +27,8 @@ loop-next-init c =
     let p = partial_of s in
     let first = c.gap_from-next.ensures in (
       501,
-      λ x number. ap (λ es. fill es (draft_of c.args.draft.now) c.args.buffer.now) (entries-some s x c.if-self-eq0.false ∙ sym (ap (gaps_on p x 501) first)),
-      subst (Lasts p 501) (sym first) (lasts_first p (limit-short s)),
+      λ x number. ap (λ es. fill es (draft_of c.args.draft.now) c.args.buffer.now) (entries_some s x c.if-self-eq0.false ∙ sym (ap (gaps_on p x 501) first)),
+      subst (Lasts p 501) (sym first) (lasts_first p (limit_short s)),
     )
 
 pub loop-next-preserved : goal.loop-next-preserved

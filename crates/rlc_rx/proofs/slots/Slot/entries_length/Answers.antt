@@ -1,6 +1,6 @@
 use Rattle.std.proofs.Common.{◌+◌, ◌-◌, sym, ap, ◌∙◌, subst, arith}
 use Rattle.protocol.specs.Receiving.{sdu_entries, entries_length}
-use Rattle.rlc_rx.proofs.Stretches.{Lasts, Few, lasts_first, few_first, counts_on, left_less, limit-short, entries_none, entries-some}
+use Rattle.rlc_rx.proofs.Stretches.{Lasts, Few, lasts_first, few_first, counts_on, left_less, limit_short, entries_none, entries_some}
 use Rattle.rlc_rx.proofs.slots.Slot.entries_length.Goals as goal
 use Rattle.rlc_rx.specs.Gaps.{stretch_of, gaps_on}
 use Rattle.rlc_rx.specs.Slots.{partial_of}
@@ -15,8 +15,8 @@ loop-next-init c =
     let p = partial_of s in
     let first = c.gap_from-next.ensures in (
       501,
-      λ x. ap entries_length (entries-some s x c.if-self-eq0.false ∙ sym (ap (gaps_on p x 501) first)) ∙ omega arith,
-      subst (Lasts p 501) (sym first) (lasts_first p (limit-short s)),
+      λ x. ap entries_length (entries_some s x c.if-self-eq0.false ∙ sym (ap (gaps_on p x 501) first)) ∙ omega arith,
+      subst (Lasts p 501) (sym first) (lasts_first p (limit_short s)),
       subst (Few p 0 501) (sym first) (few_first p),
     )
 

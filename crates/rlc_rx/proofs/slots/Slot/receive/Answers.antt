@@ -1,7 +1,7 @@
 use Rattle.std.proofs.Common.{◌≡◌, ℕ, ◌+◌, ◌≤◌, max, cond, length, Some, Option, sym, ap, ◌∙◌, subst, arith, rules}
 use Rattle.protocol.specs.Pdus.{Amd}
 use Rattle.protocol.specs.Receiving.{data_end, marks_end}
-use Rattle.rlc_rx.proofs.Pieces.{tally-short, grown_beyond, grown_highest, received_is, bounds-after}
+use Rattle.rlc_rx.proofs.Pieces.{tally_short, grown_beyond, grown_highest, received_is, bounds_after}
 use Rattle.rlc_rx.proofs.slots.Slot.receive.Goals as goal
 use Rattle.rlc_rx.specs.Flags.{Merged, NoneFrom, EndsAt, bounds}
 use Rattle.wire.specs.Views.{amd_of}
@@ -10,7 +10,7 @@ pub overflow_add-self : goal.overflow_add-self
 overflow_add-self c =
     let s = c.args.self.now in
     let m = c.put.ensures in
-    let few : s.count + c.put.result ≤ 502 = omega (arith, s.counted, m.counted, tally-short c.put.new.held, m.sizes.1, s.room.1) in
+    let few : s.count + c.put.result ≤ 502 = omega (arith, s.counted, m.counted, tally_short c.put.new.held, m.sizes.1, s.room.1) in
     omega arith
 
 pub invariant_of-self : goal.invariant_of-self
@@ -23,7 +23,7 @@ invariant_of-self c =
     c.end_after-self.ensures ∙ ap {B = Option ℕ} (λ o. cond (marks_end a.segment) (Some (o + length a.payload)) s.known_end) c.offset-start.ensures in
     let beyond = subst (λ t. NoneFrom t c.put.new.held) top (grown_beyond a _ _ _ _ _ s.top s.known_end m s.beyond) in
     let highest = subst (λ t. EndsAt t c.put.new.held) top (grown_highest a _ _ _ _ _ s.top s.known_end m c.requires.some s.highest) in
-    let bounded = bounds-after a s.bytes s.held s.top s.known_end s.short s.beyond s.highest s.bounded c.requires.room c.requires.fits in
+    let bounded = bounds_after a s.bytes s.held s.top s.known_end s.short s.beyond s.highest s.bounded c.requires.room c.requires.fits in
     record {
       room = (m.sizes.0 ∙ s.room.0, m.sizes.1 ∙ s.room.1);
       counted = omega (arith, s.counted, m.counted);

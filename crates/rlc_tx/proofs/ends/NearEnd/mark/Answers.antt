@@ -1,6 +1,6 @@
 use Rattle.std.proofs.Common.{◌≡◌, false, sym, subst}
 use Rattle.protocol.specs.Sending.{Sdu, exhausted}
-use Rattle.rlc_tx.proofs.InWindow.{update-each}
+use Rattle.rlc_tx.proofs.InWindow.{update_each}
 use Rattle.rlc_tx.proofs.OfEnd.{few_sent}
 use Rattle.rlc_tx.proofs.ends.NearEnd.mark.Goals as goal
 use Rattle.rlc_tx.specs.Windows.{sdus_in}
@@ -21,5 +21,5 @@ invariant_of-self c =
       ring = c.send_at.ensures.ring;
       untired = λ alive y.
           subst (λ (s : Sdu). exhausted n.settings.max_retx s.retx_count ≡ false) (sym (c.send_at.ensures.sdus y))
-          (update-each (λ s. exhausted n.settings.max_retx s.retx_count ≡ false) (sdus_in n.slots n.window) x _ (n.untired alive) (n.untired alive x) y);
+          (update_each (λ s. exhausted n.settings.max_retx s.retx_count ≡ false) (sdus_in n.slots n.window) x _ (n.untired alive) (n.untired alive x) y);
     }

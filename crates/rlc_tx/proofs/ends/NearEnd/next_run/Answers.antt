@@ -1,7 +1,7 @@
 use Rattle.std.proofs.Common.{◌≡◌, ℕ, Bool, true, false, Some, None, sym, ap, ◌∙◌}
 use Rattle.protocol.specs.Sending as near
 use Rattle.rlc_tx.proofs.OfEnd.{ordered}
-use Rattle.rlc_tx.proofs.Served.{found_at, served-pending, served-unsent}
+use Rattle.rlc_tx.proofs.Served.{found_at, served_pending, served_unsent}
 use Rattle.rlc_tx.proofs.ends.NearEnd.next_run.Goals as goal
 use Rattle.rlc_tx.specs.Ends.{near_of}
 use Rattle.rlc_tx.specs.Plans.{run_of}
@@ -33,12 +33,12 @@ returns-in-Some c =
     let run = c.pending_run-from.result in
     ap (λ (r : near.Run). Some r)
     (run_is false near.is_pending (near_of n) _ (count_of c.in-Some.count) run.0 run.1 c.args.grant c.slot_at.ensures c.pending_run-from.ensures.first c.pending_run-from.ensures.size)
-    ∙ sym (served-pending (near_of n) (ordered n) c.args.grant (count_of c.in-Some.count) (sym c.in-Some.ensures))
+    ∙ sym (served_pending (near_of n) (ordered n) c.args.grant (count_of c.in-Some.count) (sym c.in-Some.ensures))
 
 pub returns-in_err-count : goal.returns-in_err-count
 returns-in_err-count c =
     let n = c.args.self.now in
-    ap (option_map run_of) c.from_residual.ensures ∙ sym (served-unsent (near_of n) (ordered n) c.args.grant None (sym c.in_default.ensures) (sym c.in_err-count.ensures))
+    ap (option_map run_of) c.from_residual.ensures ∙ sym (served_unsent (near_of n) (ordered n) c.args.grant None (sym c.in_default.ensures) (sym c.in_err-count.ensures))
 
 pub slot_at-requires-2 : goal.slot_at-requires-2
 slot_at-requires-2 c =
@@ -53,4 +53,4 @@ returns c =
     let count = count_of c.in_ok-count.count in
     ap (λ (r : near.Run). Some r)
     (run_is true near.is_unsent (near_of n) _ count run.0 run.1 c.args.grant c.slot_at-2.ensures c.unsent_run-from.ensures.first c.unsent_run-from.ensures.size)
-    ∙ sym (served-unsent (near_of n) (ordered n) c.args.grant (Some count) (sym c.in_default.ensures) (sym c.in_ok-count.ensures))
+    ∙ sym (served_unsent (near_of n) (ordered n) c.args.grant (Some count) (sym c.in_default.ensures) (sym c.in_ok-count.ensures))

@@ -17,9 +17,9 @@ invariant_of-self c =
     }
 
 -- considering an SDU changes SDUs alone
-considered-sdus : (e : NearEnd) (o : Option ℕ) → considered_all o (near_of e) ≡ with_sdus (near_of e) (considered_all o (near_of e)).sdu
-considered-sdus e (Some x) = refl
-considered-sdus e None = refl
+considered_sdus : (e : NearEnd) (o : Option ℕ) → considered_all o (near_of e) ≡ with_sdus (near_of e) (considered_all o (near_of e)).sdu
+considered_sdus e (Some x) = refl
+considered_sdus e None = refl
 
 of_bare : (e : NearEnd) (o : Option ℕ) (x : ℕ) → (considered_all o (bare e.slots e.window)).sdu x ≡ (considered_all o (near_of e)).sdu x
 of_bare e (Some y) x = refl
@@ -32,6 +32,6 @@ returns c =
     record {
       near =
           failed_as n c.repeat_highest.new.slots (considered_all o (near_of n)).sdu c.has_failed-self.result (λ x. c.repeat_highest.ensures.sdus x ∙ of_bare n o x) c.has_failed-self.ensures
-          ∙ ap (failed_if (set_by n)) (sym (considered-sdus n o));
+          ∙ ap (failed_if (set_by n)) (sym (considered_sdus n o));
       set = refl;
     }

@@ -2,7 +2,7 @@ use Rattle.std.proofs.Common.{ltb, sym, refl, ap, ◌∙◌}
 use Rattle.protocol.specs.Sending.{Near, considered_in}
 use Rattle.protocol.specs.Timers.{stopped_if}
 use Rattle.rlc_tx.proofs.Failing.{failed_as, still_untired}
-use Rattle.rlc_tx.proofs.Reported.{sdus-new, start_is, untired_after}
+use Rattle.rlc_tx.proofs.Reported.{sdus_new, start_is, untired_after}
 use Rattle.rlc_tx.proofs.ends.NearEnd.report.Goals as goal
 use Rattle.rlc_tx.specs.Ends.{near_of}
 use Rattle.timers.specs.Views.{timer_of}
@@ -35,7 +35,7 @@ returns c =
     let k = c.count_acknowledged.result in
     let start = start_is n considered settled touches ack es w k c.consider_entries-touches.ensures.sdus c.consider_entries-touches.ensures.named c.acknowledge_all.ensures.sdus c.slide-self.ensures.first c.slide-self.ensures.next c.requires c.count_acknowledged.ensures.value in
     let first = c.slide-self.ensures.first ∙ start in
-    let sdu = sdus-new n considered settled touches ack es w k c.consider_entries-touches.ensures.sdus c.consider_entries-touches.ensures.named c.acknowledge_all.ensures.sdus c.slide-self.ensures.first c.slide-self.ensures.next c.requires start in
+    let sdu = sdus_new n considered settled touches ack es w k c.consider_entries-touches.ensures.sdus c.consider_entries-touches.ensures.named c.acknowledge_all.ensures.sdus c.slide-self.ensures.first c.slide-self.ensures.next c.requires start in
     let timer = c.stop_if.ensures ∙ ap (λ b. stopped_if b (timer_of n.polling.t_poll_retransmit)) (ap (λ a. ltb a c.value-2.result) c.value.ensures ∙ ap (ltb (count_of n.polling.poll_sn)) c.value-2.ensures) in
     let failed = ap (λ (m : Near). m.failed) (failed_as n considered (considered_in (near_of n) es) c.has_failed-self.result c.consider_entries-touches.ensures.sdus c.has_failed-self.ensures) in
     record {

@@ -1,10 +1,10 @@
 use Rattle.std.proofs.Common.{◌-◌, true, take, sym, refl, arith}
 use Rattle.protocol.specs.Sending as protocol
-use Rattle.rlc_tx.proofs.Changes.{sent-again}
+use Rattle.rlc_tx.proofs.Changes.{sent_again}
 use Rattle.rlc_tx.proofs.Marked.{none_pending}
 use Rattle.rlc_tx.proofs.OfSlot.{marked, facts}
 use Rattle.rlc_tx.proofs.Ranges.{count_within}
-use Rattle.rlc_tx.proofs.Sends.{settled-marks}
+use Rattle.rlc_tx.proofs.Sends.{settled_marks}
 use Rattle.rlc_tx.proofs.slots.Slot.acknowledge.Goals as goal
 use Rattle.rlc_tx.specs.Marks.{is_pending, mark_at}
 use Rattle.std.proofs.lemmas.Bool.{cond-false}
@@ -18,14 +18,14 @@ pub invariant_of-self : goal.invariant_of-self
 invariant_of-self c =
     let s = c.args.self.now in
     facts s.stored
-    (sent-again s.marks c.replace.new.marks s.size s.sent s.pending s.low s.low s.sent (marked s) s.low_begun (omega arith) s.none_below c.replace.ensures.after
+    (sent_again s.marks c.replace.new.marks s.size s.sent s.pending s.low s.low s.sent (marked s) s.low_begun (omega arith) s.none_below c.replace.ensures.after
     c.replace.result c.replace.ensures.changed s.low s.low_begun)
     (refl {a = true})
 
 pub returns-then-self-gt0 : goal.returns-then-self-gt0
 returns-then-self-gt0 c =
     let s = c.args.self.now in
-    λ i. record { bytes = take s.size s.bytes; mark = λ k. settled-marks s c.replace.new.marks c.replace.ensures.after k i; acknowledged = true; retx_count = s.retx_count }
+    λ i. record { bytes = take s.size s.bytes; mark = λ k. settled_marks s c.replace.new.marks c.replace.ensures.after k i; acknowledged = true; retx_count = s.retx_count }
 
 pub returns-else-self-gt0 : goal.returns-else-self-gt0
 returns-else-self-gt0 c =

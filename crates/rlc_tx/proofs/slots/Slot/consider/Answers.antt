@@ -1,8 +1,8 @@
 use Rattle.std.proofs.Common.{◌≡◌, ◌+◌, ◌-◌, true, false, take, sym, ap, ◌∙◌, subst, arith}
 use Rattle.protocol.specs.Sending.{names_byte}
 use Rattle.rlc_tx.proofs.Changes.{pended}
-use Rattle.rlc_tx.proofs.Considers.{considered-marks, newly_is, still_bounded}
-use Rattle.rlc_tx.proofs.OfSlot.{marked, facts, few_pending, bounded-more}
+use Rattle.rlc_tx.proofs.Considers.{considered_marks, newly_is, still_bounded}
+use Rattle.rlc_tx.proofs.OfSlot.{marked, facts, few_pending, bounded_more}
 use Rattle.rlc_tx.proofs.Ranges.{count_within}
 use Rattle.rlc_tx.proofs.slots.Slot.consider.Goals as goal
 use Rattle.rlc_tx.specs.Considered.{counted_once, has_counted}
@@ -13,7 +13,7 @@ use Rattle.wire.specs.Views.{missing_of}
 pub count_retx-retx_count-requires : goal.count_retx-retx_count-requires
 count_retx-retx_count-requires c =
     let s = c.args.self.now in
-    bounded-more false s.pending 502 s.retx_count (few_pending s) (subst (λ a. bounded a s.pending s.retx_count ≡ true) c.requires s.few)
+    bounded_more false s.pending 502 s.retx_count (few_pending s) (subst (λ a. bounded a s.pending s.retx_count ≡ true) c.requires s.few)
 
 pub overflow_add-self : goal.overflow_add-self
 overflow_add-self c =
@@ -46,7 +46,7 @@ returns c =
       after = λ i.
           record {
             bytes = take s.size s.bytes;
-            mark = λ k. considered-marks s names from to c.named-from.ensures.from c.named-from.ensures.to c.named-from.ensures.names c.replace-newly.new.marks c.replace-newly.ensures.after k i;
+            mark = λ k. considered_marks s names from to c.named-from.ensures.from c.named-from.ensures.to c.named-from.ensures.names c.replace-newly.new.marks c.replace-newly.ensures.after k i;
             acknowledged = s.acknowledged;
             retx_count = retx i;
           };
