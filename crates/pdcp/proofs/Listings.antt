@@ -1,12 +1,14 @@
 -- The laws of a list of what stands under COUNTs.
-use Rattle.std.proofs.Common.{◌≡◌, ℕ, zero, suc, ◌+◌, ◌<◌, ◌≤◌, Bool, true, false, cond, ◌||◌, eqb, List, [], ◌∷◌, ◌++◌, is_some, Some, None, Option, sym, refl, ap, ◌∙◌, subst, ⊎_elim, arith}
+use Rattle.std.proofs.Common.{◌≡◌, ℕ, zero, suc, ◌+◌, ◌<◌, ◌≤◌, Bool, true, false, cond, ◌&&◌, ◌||◌, eqb, ltb, find, count_by, length, List, [], ◌∷◌, ◌++◌, is_some, Some, None, Option, sym, refl, ap, ◌∙◌, subst, ⊎_elim, arith}
 use Rattle.pdcp.specs.Places.{noted, listed}
-use Rattle.pdcp.specs.Stores.{found, without}
+use Rattle.pdcp.specs.Stores.{found, without, lowest_of}
 use Rattle.protocol.proofs.Seeks.{update_same, update_other}
 use Rattle.protocol.specs.Bytes.{Bytes}
 use Rattle.protocol.specs.Reordering.{Stored, is_stored, insert, due_of}
 use Rattle.protocol.specs.Searching.{update}
-use Rattle.std.proofs.lemmas.Bool.{cases_eq, cond-true, cond-false, eq-eqb, ne_eqb, lt-ltb, le-ltb}
+use Rattle.std.specs.List.{range_with_len}
+use Rattle.std.proofs.lemmas.List.Sums.{sum_by-cons}
+use Rattle.std.proofs.lemmas.Bool.{cases_eq, cond-true, cond-false, ltb-false, eq-eqb, ne_eqb, lt-ltb, le-ltb}
 
 -- one COUNT and the higher ones -------------------------------------------------------------------------------------
 
@@ -144,3 +146,42 @@ due_none f deliv (suc n) from h = go (f from) (due_none f deliv n (suc from) (om
     go : (o : Option Bytes) → due_of deliv (listed f n (suc from)) ≡ [] → due_of deliv (noted o from (listed f n (suc from))) ≡ []
     go None e = e
     go (Some packet) e = cond-false _ _ _ (le-ltb from deliv h)
+
+-- searching and counting along the COUNTs ---------------------------------------------------------------------------
+
+-- a COUNT, and what is found of those behind it
+lowest_here : (o : Option Bytes) (a : ℕ) (behind : Option ℕ) (rest : List Stored) → behind ≡ lowest_of rest
+    → cond (is_some o) (Some a) behind ≡ lowest_of (noted o a rest)
+lowest_here None a behind rest e = e
+lowest_here (Some packet) a behind rest e = refl
+
+pub lowest_listed : (f : ℕ → Option Bytes) (n a : ℕ) → find (λ c. is_some (f c)) (range_with_len a n) ≡ lowest_of (listed f n a)
+lowest_listed f zero a = refl
+lowest_listed f (suc n) a =
+    let next : a + 1 ≡ suc a = omega arith in
+    lowest_here (f a) a _ (listed f n (suc a)) (lowest_listed f n (a + 1) ∙ ap (λ k. lowest_of (listed f n k)) next)
+
+due_here : (o : Option Bytes) (deliv a later : ℕ) (rest : List Stored) → later ≡ length (due_of deliv rest)
+    → (deliv ≤ a → due_of deliv rest ≡ [])
+    → cond (ltb a deliv && is_some o) 1 0 + later ≡ length (due_of deliv (noted o a rest))
+due_here o deliv a later rest e none = go o (ltb a deliv) refl
+  where
+    go : (o : Option Bytes) (b : Bool) → ltb a deliv ≡ b → cond (b && is_some o) 1 0 + later ≡ length (due_of deliv (noted o a rest))
+    go None true is = omega (arith, e)
+    go None false is = omega (arith, e)
+    go (Some packet) true is =
+        let s : Stored = record { count = a; packet = packet } in
+        let here : due_of deliv (s ∷ rest) ≡ s ∷ due_of deliv rest = cond-true _ _ _ is in
+        omega (arith, e, ap length here)
+    go (Some packet) false is =
+        let here : due_of deliv (record { count = a; packet = packet } ∷ rest) ≡ [] = cond-false _ _ _ is in
+        omega (arith, e, ap length here, ap length (none (ltb-false a deliv is)))
+
+pub due_listed : (f : ℕ → Option Bytes) (deliv n a : ℕ)
+    → count_by (λ c. ltb c deliv && is_some (f c)) (range_with_len a n) ≡ length (due_of deliv (listed f n a))
+due_listed f deliv zero a = refl
+due_listed f deliv (suc n) a =
+    let next : a + 1 ≡ suc a = omega arith in
+    sum_by-cons (λ c. cond (ltb c deliv && is_some (f c)) 1 0) a (range_with_len (a + 1) n)
+    ∙ due_here (f a) deliv a _ (listed f n (suc a)) (due_listed f deliv n (a + 1) ∙ ap (λ k. length (due_of deliv (listed f n k))) next)
+    (λ past. due_none f deliv n (suc a) (omega (arith, past)))

@@ -9,7 +9,7 @@ use Rattle.protocol.specs.Reordering.{Stored, Pdcp, is_stored, due, counted, num
 use Rattle.protocol.specs.Settings.{Settings}
 use Rattle.protocol.specs.Timers.{Timer, stopped, running, endless, runs_out, ticked}
 use Rattle.std.proofs.lemmas.Bool.{both_ways, cond-true, cond-false, le-leb, le-ltb, ltb-false, or_cases, or_left, or_right}
-use Rattle.wire.specs.Views.{held_if}
+use Rattle.wire.specs.Counts.{held_if}
 
 -- taking in --------------------------------------------------------------------------------------------------------
 

@@ -1,15 +1,16 @@
 -- A ring of places as a function of COUNTs, and the window that it shows.
-use Rattle.std.proofs.Common.{◌≡◌, ℕ, suc, ◌+◌, ◌-◌, ◌*◌, ◌%◌, ◌<◌, ◌≤◌, Bool, true, false, cond, eqb, ltb, leb, List, [], ◌++◌, map, length, get_or, set, is_some, Some, None, Option, sym, refl, ap, ◌∙◌, subst, ⊎_elim, arith}
-use Rattle.pdcp.proofs.Listings.{stored_found, listed_same, listed_none, listed_split, found_outside, found_at, listed_insert, listed_without}
-use Rattle.pdcp.specs.Places.{Each, has_place, noted, packet_in, no_place, under, listed, copied_out}
+use Rattle.std.proofs.Common.{◌≡◌, ℕ, ◌+◌, ◌-◌, ◌*◌, ◌%◌, ◌<◌, ◌≤◌, Bool, true, false, cond, ◌&&◌, eqb, ltb, leb, find, count_by, List, [], ◌++◌, map, length, get_or, set, is_some, Some, None, Option, sym, refl, ap, ◌∙◌, subst, ⊎_elim, arith}
+use Rattle.pdcp.proofs.Listings.{stored_found, listed_same, listed_none, listed_split, found_outside, found_at, listed_insert, listed_without, lowest_listed, due_listed}
+use Rattle.pdcp.specs.Places.{Each, has_place, packet_in, no_place, under, listed, copied_out}
 use Rattle.pdcp.specs.Stores.{held_in, Near, found, taken, taken_if, without, lowest_of}
 use Rattle.pdcp.specs.declared.places.Place.{Place}
 use Rattle.protocol.proofs.Rings.{ring_update}
 use Rattle.protocol.specs.Bytes.{Bytes, put}
 use Rattle.protocol.specs.Reordering.{Stored, is_stored, insert, due_of}
 use Rattle.protocol.specs.Searching.{update}
+use Rattle.std.specs.List.{range_with_len}
 use Rattle.std.proofs.lemmas.List.{append-nil, length-map, map-set, get_or-map, get_or-set_same, get_or-set_other}
-use Rattle.std.proofs.lemmas.Bool.{both_ways, cases_eq, cases_lt, cond-true, lt-ltb, eqb-true, leb-true, leb-false, ltb-true, ltb-false, and_parts, and_cases}
+use Rattle.std.proofs.lemmas.Bool.{both_ways, cases_eq, cases_lt, eqb-true, leb-true, leb-false, ltb-true, ltb-false, and_parts, and_cases}
 
 -- what stands under a COUNT is what its place holds
 pub under_is : (places : List Place) (c : ℕ) → length places ≡ 16 → under places c ≡ packet_in (get_or places (c % 16) no_place)
@@ -160,29 +161,13 @@ each_set P places i place sized all new k lt = ⊎_elim here there (cases_eq k i
     there : (k ≡ i → ⊥) → P (get_or (set places i place) k no_place)
     there d = subst P (sym (get_or-set_other places i k place no_place d)) (all k lt)
 
--- a walk along the window ------------------------------------------------------------------------------------------
+-- the lowest COUNT of a ring, and how many are due ------------------------------------------------------------------
 
-pub held_start : (places : List Place) (first : ℕ) → listed (under places) (16 - 0) (first + 0) ≡ held_in places first
+pub lowest_held : (places : List Place) (first : ℕ) → find (λ c. is_some (under places c)) (range_with_len first 16) ≡ lowest_of (held_in places first)
 unfolding held_in
-held_start places first = let start : first + 0 ≡ first = omega arith in ap (listed (under places) 16) start
+lowest_held places first = lowest_listed (under places) 16 first
 
-pub listed_step : (f : ℕ → Option Bytes) (first i : ℕ) → i < 16 → listed f (16 - i) (first + i) ≡ noted (f (first + i)) (first + i) (listed f (16 - (i + 1)) (first + (i + 1)))
-listed_step f first i lt =
-    let size : 16 - i ≡ suc (16 - (i + 1)) = omega (arith, lt) in
-    let next : suc (first + i) ≡ first + (i + 1) = omega arith in
-    ap (λ n. listed f n (first + i)) size ∙ ap (λ k. noted (f (first + i)) (first + i) (listed f (16 - (i + 1)) k)) next
-
--- a COUNT under which nothing stands, and one of a stored packet
-pub listed_skip : (f : ℕ → Option Bytes) (first i : ℕ) → i < 16 → is_some (f (first + i)) ≡ false
-    → listed f (16 - (i + 1)) (first + (i + 1)) ≡ listed f (16 - i) (first + i)
-listed_skip f first i lt none =
-    sym (listed_step f first i lt ∙ ap (λ o. noted o (first + i) (listed f (16 - (i + 1)) (first + (i + 1)))) (none_if (f (first + i)) (both_ways _ none)))
-
-pub lowest_noted : (o : Option Bytes) (k : ℕ) (rest : List Stored) → is_some o ≡ true → lowest_of (noted o k rest) ≡ Some k
-lowest_noted None k rest e = absurd (both_ways false refl e)
-lowest_noted (Some packet) k rest e = refl
-
-pub due_noted : (o : Option Bytes) (deliv k : ℕ) (rest : List Stored) → k < deliv → is_some o ≡ true
-    → length (due_of deliv (noted o k rest)) ≡ 1 + length (due_of deliv rest)
-due_noted None deliv k rest h e = absurd (both_ways false refl e)
-due_noted (Some packet) deliv k rest h e = ap length (cond-true _ _ _ (lt-ltb k deliv h)) ∙ omega arith
+pub due_held : (places : List Place) (first deliv : ℕ)
+    → count_by (λ c. ltb c deliv && is_some (under places c)) (range_with_len first 16) ≡ length (due_of deliv (held_in places first))
+unfolding held_in
+due_held places first deliv = due_listed (under places) deliv 16 first

@@ -3,7 +3,8 @@ use Rattle.std.specs.Prelude.{ℕ, Ok, Err, Result}
 use Rattle.pdcp.specs.declared.headers.DataPdu.{DataPdu}
 use Rattle.protocol.specs.Bytes.{Bytes}
 use Rattle.protocol.specs.declared.faults.Fault.{Fault}
-use Rattle.wire.specs.Views.{sn_of, Begins}
+use Rattle.wire.specs.Counts.{sn_of}
+use Rattle.wire.specs.Views.{Begins}
 
 abbrev pub read_of : Result DataPdu Fault → Result (ℕ × Bytes) Fault
 read_of (Ok pdu) = Ok (sn_of pdu.sn, pdu.packet.bytes.now)

@@ -9,7 +9,7 @@ use Rattle.protocol.specs.Sending.{window_size, packet_limit}
 use Rattle.protocol.specs.Settings.{Settings}
 use Rattle.protocol.specs.declared.faults.Fault.{Fault}
 use Rattle.timers.specs.Views.{settings_of, timer_of}
-use Rattle.wire.specs.Views.{count_of}
+use Rattle.wire.specs.Counts.{count_of}
 
 abbrev pub pdcp_of : Receiver → Pdcp
 pdcp_of r =

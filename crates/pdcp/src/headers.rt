@@ -4,7 +4,6 @@ ghost use Rattle.std.specs.Prelude.{◌≡◌};
 ghost use Rattle.pdcp.specs.Headers.{read_of, Placed};
 ghost use Rattle.protocol.specs.Reading.{decode_pdcp};
 
-use crate::places::MAX_PACKET;
 use protocol::{Fault, Refusal};
 use wire::{Part, Sn};
 
@@ -13,9 +12,6 @@ const DATA: u8 = 128;
 
 /// The header's length.
 const HEADER: usize = 2;
-
-/// The longest SDU.
-pub(crate) const MAX_SDU: usize = HEADER + MAX_PACKET;
 
 /// A data PDU that was read. Its packet is a part of the bytes read.
 #[derive(Drop)]
@@ -29,19 +25,13 @@ pub fn read_data<'a>(sdu: &'a [u8]) -> Result<DataPdu<'a>, Fault>
     ensures value { read_of result ≡ decode_pdcp sdu.now }
     ensures places { Placed sdu.now result }
 {
-    let size = sdu.len();
-    if size <= HEADER || sdu[0] < DATA {
-        return Err(Fault {
-            refusal: Refusal::NotPdcpData,
-            place: 0,
-        });
+    if sdu.len() <= HEADER || sdu[0] < DATA {
+        return Err(Refusal::NotPdcpData.at(0));
     }
-    let number = 256 * u16::from(sdu[0] % 16) + u16::from(sdu[1]);
-    Ok(DataPdu {
-        sn: Sn::new(number),
-        packet: Part {
-            bytes: &sdu[HEADER..size],
-            place: HEADER,
-        },
-    })
+    let sn = Sn::new(u16::from_be_bytes([sdu[0], sdu[1]]));
+    let packet = Part {
+        bytes: &sdu[HEADER..],
+        place: HEADER,
+    };
+    Ok(DataPdu { sn, packet })
 }

@@ -4,10 +4,11 @@ ghost use Rattle.std.specs.Prelude.{◌≡◌, ◌≤◌, length, is_some, Some,
 ghost use Rattle.pdcp.specs.Places.{Room, packet_in, copied_out};
 ghost use Rattle.protocol.specs.Bytes.{put};
 
-/// The longest packet.
-pub(crate) const MAX_PACKET: usize = 500;
+use protocol::MAX_PACKET;
 
 /// Room for one packet.
+// The memory is fixed, so no vector holds the packet. What `Room` says is no invariant of the type: an array of
+// such places in a store gets no proof then, since the borrow checker has no plan for it.
 #[derive(Clone, Copy)]
 pub(crate) struct Place {
     /// The packet stands at the start.
@@ -21,7 +22,7 @@ fn write(buffer: &mut [u8], bytes: &[u8])
     requires { length bytes.now ≤ length buffer.old }
     ensures { buffer.new ≡ put bytes.now buffer.old }
 {
-    buffer[0..bytes.len()].copy_from_slice(bytes);
+    buffer[..bytes.len()].copy_from_slice(bytes);
 }
 
 impl Place {
@@ -62,7 +63,7 @@ impl Place {
         if buffer.len() < length {
             return None;
         }
-        write(buffer, &self.bytes[0..length]);
+        write(buffer, &self.bytes[..length]);
         self.length = None;
         Some(length)
     }

@@ -1,18 +1,22 @@
-//! PDCP's variables at the far end.
+//! PDCP at the far end: its variables and its calls.
 
-ghost use Rattle.std.specs.Prelude.{◌≡◌, ◌+◌, ◌≤◌, true};
+ghost use Rattle.std.specs.Prelude.{◌≡◌, ◌+◌, ◌<◌, ◌≤◌, true, [], length};
 ghost use Rattle.pdcp.specs.Stores.{stored_of, Below};
+ghost use Rattle.protocol.specs.Reordering.{new_pdcp, due, counted, tick_pdcp, unstored_from, storing, delivering, reordering, accepted};
 ghost use Rattle.protocol.specs.Sending.{packet_limit, window_size};
 ghost use Rattle.protocol.specs.Timers.{runs};
-ghost use Rattle.timers.specs.Views.{timer_of};
-ghost use Rattle.wire.specs.Views.{count_of};
+ghost use Rattle.std.specs.Option.{option_map};
+ghost use Rattle.timers.specs.Views.{settings_of, timer_of};
+ghost use Rattle.wire.specs.Counts.{count_of};
 
-mod calls;
-mod steps;
-
+use crate::headers::read_data;
 use crate::stores::Store;
+use protocol::{Fault, MAX_SDU, PACKET_LIMIT, Refusal, WINDOW_SIZE};
 use timers::{Settings, Timer};
 use wire::PdcpCount;
+
+/// How many COUNTs from RX_DELIV on are accepted.
+const WINDOW: u32 = WINDOW_SIZE as u32;
 
 /// PDCP at the far end.
 #[derive(Drop)]
@@ -33,4 +37,151 @@ pub struct Receiver {
     ghost timed: { (runs (timer_of t_reordering) ≡ true → count_of rx_deliv ≤ count_of rx_reord) },
     // So no two stored COUNTs are 16 apart once nothing is due.
     ghost within: { Below (count_of rx_deliv + window_size) (stored_of store) },
+}
+
+impl Receiver {
+    ghost use Rattle.pdcp.specs.Stores.{lowest_of};
+    ghost use Rattle.pdcp.specs.Views.{pdcp_of, state_of, after, answered, receives, collects_into, Awaited};
+
+    pub fn new(settings: Settings) -> Receiver
+        ensures { state_of result ≡ (settings_of settings, new_pdcp) }
+    {
+        let first = PdcpCount::first();
+        Receiver {
+            settings,
+            rx_deliv: first,
+            rx_next: first,
+            rx_reord: first,
+            t_reordering: Timer::Stopped,
+            store: Store::new(),
+        }
+    }
+
+    /// How many packets are due.
+    pub fn due(&self) -> usize
+        ensures { result ≡ length (due (pdcp_of self.now)) }
+    {
+        self.store.count_below(self.rx_deliv)
+    }
+
+    /// Refuses a COUNT out of range, discards one below RX_DELIV or stored, and takes any other packet.
+    fn take_counted(&mut self, count: Option<PdcpCount>, packet: &[u8]) -> Result<(), Fault>
+        requires collected { due (pdcp_of self.old) ≡ [] }
+        requires short { length packet.now ≤ 500 }
+        ensures { (result, state_of self.new) ≡ answered (counted (settings_of self.old.settings) (option_map count_of count) packet.now (pdcp_of self.old)) (state_of self.old) }
+    {
+        let count = count.ok_or(Refusal::CountRange.at(0))?;
+        if count.value() >= self.rx_deliv.value() + WINDOW || count.value() >= PACKET_LIMIT {
+            return Err(Refusal::CountRange.at(0));
+        }
+        if count < self.rx_deliv || self.store.contains(count) {
+            return Ok(());
+        }
+        self.accept(count, packet);
+        Ok(())
+    }
+
+    /// Takes an SDU that RLC hands up; none is taken while a packet is due.
+    pub fn receive(&mut self, sdu: &[u8]) -> Result<(), Fault>
+        ensures { (result, state_of self.new) ≡ receives sdu.now (state_of self.old) }
+    {
+        if self.due() > 0 {
+            return Err(Refusal::PacketDue.at(0));
+        }
+        if sdu.len() > MAX_SDU {
+            return Err(Refusal::NotPdcpData.at(0));
+        }
+        let pdu = read_data(sdu)?;
+        let count = pdu.sn.pdcp_count(self.rx_deliv);
+        self.take_counted(count, pdu.packet.bytes)
+    }
+
+    /// One Tick: when t-Reordering runs out, the COUNTs below RX_REORD that are missing are given up.
+    pub fn tick(&mut self)
+        ensures { state_of self.new ≡ after tick_pdcp (state_of self.old) }
+    {
+        if self.t_reordering.tick() {
+            let deliv = self.next_missing(self.rx_reord);
+            self.rx_deliv = deliv;
+            self.start_reordering();
+        }
+    }
+
+    /// Writes the lowest due packet at the buffer's start, answers its length and removes it; none: none is due.
+    pub fn collect(&mut self, buffer: &mut [u8]) -> Result<Option<usize>, Fault>
+        ensures { (result, buffer.new, state_of self.new) ≡ collects_into buffer.old (state_of self.old) }
+    {
+        let Some(count) = self.lowest_due() else {
+            return Ok(None);
+        };
+        let length = self.store.take(count, buffer);
+        length.map(Some).ok_or(Refusal::ShortCollect.at(0))
+    }
+
+    /// The first COUNT from `from` on that is not stored.
+    fn next_missing(&self, from: PdcpCount) -> PdcpCount
+        requires { count_of from ≤ count_of self.now.rx_next }
+        ensures { count_of result ≡ unstored_from (pdcp_of self.now) (count_of from) }
+    {
+        // A chain would search steps from `from` on, and add them to it again.
+        let mut next = from;
+        while next < self.rx_next && self.store.contains(next) {
+            next = next.saturating_plus(1);
+        }
+        next
+    }
+
+    /// t-Reordering starts if it does not run and a COUNT below RX_NEXT is missing.
+    fn start_reordering(&mut self)
+        ensures { state_of self.new ≡ after reordering (state_of self.old) }
+    {
+        if !self.t_reordering.is_running() && self.rx_deliv < self.rx_next {
+            self.rx_reord = self.rx_next;
+            self.t_reordering = Timer::start(self.settings.t_reordering);
+        }
+    }
+
+    /// RX_DELIV moves; t-Reordering stops once it has passed RX_REORD.
+    fn deliver(&mut self, deliv: PdcpCount)
+        requires from { count_of self.old.rx_deliv ≤ count_of deliv }
+        requires to { count_of deliv ≤ count_of self.old.rx_next }
+        ensures { state_of self.new ≡ after (λ _. delivering (count_of deliv)) (state_of self.old) }
+    {
+        self.rx_deliv = deliv;
+        let passed = self.rx_reord <= deliv;
+        self.t_reordering.stop_if(passed);
+    }
+
+    /// Stores a packet; RX_NEXT moves past it.
+    fn keep(&mut self, count: PdcpCount, packet: &[u8])
+        requires { Awaited (count_of count) packet.now (pdcp_of self.old) }
+        ensures { state_of self.new ≡ after (λ _. storing (count_of count) packet.now) (state_of self.old) }
+    {
+        self.store.insert(count, packet);
+        if self.rx_next <= count {
+            self.rx_next = count.saturating_plus(1);
+        }
+    }
+
+    /// Takes a packet that is not discarded.
+    fn accept(&mut self, count: PdcpCount, packet: &[u8])
+        requires { Awaited (count_of count) packet.now (pdcp_of self.old) }
+        ensures { state_of self.new ≡ after (λ s. accepted s (count_of count) packet.now) (state_of self.old) }
+    {
+        self.keep(count, packet);
+        let deliv = if count == self.rx_deliv {
+            self.next_missing(count)
+        } else {
+            self.rx_deliv
+        };
+        self.deliver(deliv);
+        self.start_reordering();
+    }
+
+    /// The lowest COUNT that is due.
+    fn lowest_due(&self) -> Option<PdcpCount>
+        ensures { option_map count_of result ≡ lowest_of (due (pdcp_of self.now)) }
+    {
+        self.store.lowest().filter(|lowest| *lowest < self.rx_deliv)
+    }
 }

@@ -6,7 +6,8 @@ use Rattle.pdu.specs.declared.contents.Content.{Content}
 use Rattle.pdu.specs.declared.contents.Content.TheVariants.{Amd, Status}
 use Rattle.pdu.specs.declared.contents.Failure.{Failure}
 use Rattle.pdu.specs.declared.contents.Failure.TheVariants.{Refused, NoMemory}
-use Rattle.wire.specs.Views.{sn_of, entry_of, amd_of}
+use Rattle.wire.specs.Counts.{sn_of}
+use Rattle.wire.specs.Views.{entry_of, amd_of}
 
 abbrev pub content_of : Content → Pdu
 content_of (Amd header part) = amd (amd_of header part.bytes.now)

@@ -1,17 +1,19 @@
-use Rattle.std.proofs.Common.{◌≡◌, ◌<◌, ◌≤◌, true, false, sym, ap, ◌∙◌, arith}
+use Rattle.std.proofs.Common.{◌≡◌, ◌+◌, ◌<◌, ◌≤◌, true, false, sym, ap, ◌∙◌, arith}
 use Rattle.pdcp.proofs.Orders.{missing_on, missing_end, missing_here}
 use Rattle.pdcp.proofs.receivers.Receiver.next_missing.Goals as goal
 use Rattle.pdcp.specs.Stores.{stored_of}
 use Rattle.pdcp.specs.Views.{pdcp_of}
 use Rattle.protocol.specs.Reordering.{is_stored, unstored_from}
+use Rattle.std.proofs.lemmas.Bool.{ltb-true, ltb-false}
+use Rattle.wire.proofs.Orders.{count_lt}
 
 pub loop-next-preserved : goal.loop-next-preserved
 loop-next-preserved c =
     let r = c.args.self.now in
     let n = c.loop-next.next.value in
     let end = r.rx_next.value in
-    let lt : n < end = omega (arith, c.loop-next-test.true, c.value.ensures, c.value-in-loop-next.ensures) in
-    let next = c.following-next.ensures in
+    let lt : n < end = ltb-true n end (sym (c.lt.ensures ∙ count_lt n end) ∙ c.loop-next-test.true) in
+    let next : c.saturating_plus-next.result.value ≡ n + 1 = omega (arith, c.saturating_plus-next.ensures, r.limited, lt) in
     let is : is_stored (stored_of r.store) n ≡ true = sym {b = is_stored (stored_of r.store) n} c.if-contains.ensures in (
       omega (arith, lt, next),
       ap (unstored_from (pdcp_of r)) next ∙ missing_on (stored_of r.store) end n lt is ∙ c.loop-next.invariant.1,
@@ -22,7 +24,7 @@ returns-else-contains c =
     let r = c.args.self.now in
     let n = c.loop-next.next.value in
     let end = r.rx_next.value in
-    let lt : n < end = omega (arith, c.loop-next-test.true, c.value.ensures, c.value-in-loop-next.ensures) in
+    let lt : n < end = ltb-true n end (sym (c.lt.ensures ∙ count_lt n end) ∙ c.loop-next-test.true) in
     let not_there : is_stored (stored_of r.store) n ≡ false = sym {b = is_stored (stored_of r.store) n} c.if-contains.ensures in
     sym (missing_here (stored_of r.store) end n lt not_there) ∙ c.loop-next.invariant.1
 
@@ -31,5 +33,5 @@ returns-after-loop-next c =
     let r = c.args.self.now in
     let n = c.loop-next.next.value in
     let end = r.rx_next.value in
-    let past : end ≤ n = omega (arith, c.loop-next-test.false, c.value.ensures, c.value-in-loop-next.ensures) in
+    let past : end ≤ n = ltb-false n end (sym (c.lt.ensures ∙ count_lt n end) ∙ c.loop-next-test.false) in
     sym (missing_end (stored_of r.store) end n past) ∙ c.loop-next.invariant.1

@@ -2,7 +2,7 @@ use Rattle.std.proofs.Common.{◌≡◌, ◌-◌, ◌≤◌}
 use Rattle.pdcp.proofs.receivers.Receiver.next_missing.Given as goal
 use Rattle.pdcp.specs.Views.{pdcp_of}
 use Rattle.protocol.specs.Reordering.{unstored_from}
-use Rattle.wire.specs.Views.{count_of}
+use Rattle.wire.specs.Counts.{count_of}
 
 abbrev pub invariant-loop-next : goal.invariant-loop-next
 invariant-loop-next l =

@@ -7,7 +7,7 @@ use Rattle.protocol.specs.declared.faults.Fault.{Fault}
 use Rattle.std.proofs.lemmas.List.{nil_from_length}
 use Rattle.std.specs.Option.{option_map}
 use Rattle.timers.specs.Views.{settings_of}
-use Rattle.wire.specs.Views.{sn_of, count_of}
+use Rattle.wire.specs.Counts.{sn_of, count_of}
 
 pub take_counted-requires : goal.take_counted-requires
 take_counted-requires c =
