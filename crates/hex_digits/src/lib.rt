@@ -6,6 +6,7 @@ ghost use Rattle.std.specs.Prelude.{◌≡◌, ℕ, ◌*◌, ◌<◌, length, If
 ghost use Rattle.hex_digits.specs.Digits.{Digit, Byte, Spelt};
 
 use std::alloc::{AllocError, AllocFailed, Global};
+use std::fmt;
 
 /// Why digits give no bytes.
 #[derive(Drop)]
@@ -24,6 +25,16 @@ impl From<AllocError> for BadHex {
 impl<T: Drop> From<AllocFailed<T>> for BadHex {
     fn from(_: AllocFailed<T>) -> BadHex {
         BadHex::NoMemory
+    }
+}
+
+impl fmt::Display for BadHex {
+    fn fmt<W: fmt::Write>(&self, f: &mut fmt::Formatter<W>) -> fmt::Result {
+        f.write_str(match self {
+            BadHex::OddDigits => "odd number of hex digits",
+            BadHex::BadDigit => "a character that is no hex digit",
+            BadHex::NoMemory => "no memory",
+        })
     }
 }
 

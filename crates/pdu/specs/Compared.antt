@@ -1,12 +1,8 @@
 -- What a comparison of the bytes written with those read says.
-use Rattle.std.specs.Prelude.{◌≡◌, ℕ, ◌<◌, List, [], ◌∷◌, length, vec_items, ◌≢◌, bit_xor, slice_index}
+use Rattle.std.specs.Prelude.{◌≡◌, ℕ, ◌<◌, List, All, length, vec_items, ◌≢◌, bit_xor, slice_index}
 use Rattle.pdu.specs.declared.differences.Comparison.{Comparison}
 use Rattle.pdu.specs.declared.differences.Comparison.TheVariants.{Equal, Length, Differs}
 use Rattle.pdu.specs.declared.differences.Difference.{Difference}
-
-abbrev pub All : {A : Type 0} → (A → Type 0) → List A → Type 0
-All P [] = Unit {0}
-All P (x ∷ xs) = P x × All P xs
 
 -- the two have a byte at this place, and it differs in these bits
 abbrev pub Real : List ℕ → List ℕ → Difference → Type 0

@@ -1,16 +1,14 @@
 //! PDUs as they are shown and written back.
 
-ghost use Rattle.std.specs.Prelude.{◌≡◌, map, IfOk};
-ghost use Rattle.pdu.specs.Shown.{content_of, Reads};
+ghost use Rattle.std.specs.Prelude.{◌≡◌};
+ghost use Rattle.pdu.specs.Shown.{Reads};
 ghost use Rattle.pdu.specs.declared.contents.Failure.TheVariants.{Refused, NoMemory};
-ghost use Rattle.protocol.specs.Pdus.{amd as amd_pdu};
 ghost use Rattle.protocol.specs.Reading.{decode};
-ghost use Rattle.wire.specs.Views.{amd_of, entry_of, entries_of};
 
 use crate::differences::Comparison;
 use crate::requests::Request;
 use std::alloc::{AllocError, Global};
-use wire::{Draft, Entries, Entry, Fault, Header, Part, Pdu, Reader, Segment, Sn, write_amd};
+use wire::{Draft, Entry, Fault, Header, Part, Pdu, Reader, Sn, write_amd};
 
 /// A PDU that was read.
 #[derive(Drop)]
@@ -42,23 +40,6 @@ impl From<AllocError> for Failure {
     }
 }
 
-fn collect_entries(heap: Global, mut entries: Entries<'_>) -> Result<Vec<Entry>, AllocError>
-    ensures { IfOk result (λ v. map entry_of v.items ≡ entries_of entries.entry) }
-{
-    let mut list = Vec::new(heap);
-    while let Some(entry) = entries.next() {
-        list.push(entry)?;
-    }
-    Ok(list)
-}
-
-fn amd<'a>(poll: bool, sn: Sn, segment: Segment, data: Part<'a>) -> Content<'a>
-    ensures { content_of result ≡ amd_pdu (amd_of (record { poll = poll; sn = sn; segment = segment }) «data».entry.bytes.now) }
-{
-    let header = Header { poll, sn, segment };
-    Content::Amd { header, data }
-}
-
 /// Writes a status report at the buffer's start, and answers its length.
 fn write_status(ack_sn: Sn, entries: &[Entry], buffer: &mut [u8]) -> Result<usize, Fault> {
     let mut draft = Draft::open();
@@ -80,13 +61,10 @@ impl<'a> Content<'a> {
             bytes: request.bytes.as_slice(),
         };
         Ok(match reader.read()? {
-            Pdu::Whole { poll, sn, data } => amd(poll, sn, Segment::Whole, data),
-            Pdu::First { poll, sn, data } => amd(poll, sn, Segment::First, data),
-            Pdu::Middle { poll, sn, so, data } => amd(poll, sn, Segment::Middle { so }, data),
-            Pdu::Last { poll, sn, so, data } => amd(poll, sn, Segment::Last { so }, data),
+            Pdu::Amd { header, data } => Content::Amd { header, data },
             Pdu::Status { ack_sn, entries } => Content::Status {
                 ack_sn,
-                entries: collect_entries(heap, entries)?,
+                entries: entries.collect(heap)?,
             },
         })
     }

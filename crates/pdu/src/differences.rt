@@ -1,7 +1,7 @@
 //! Comparing bytes.
 
-ghost use Rattle.std.specs.Prelude.{◌≡◌, length, IfOk};
-ghost use Rattle.pdu.specs.Compared.{All, Compares, Real};
+ghost use Rattle.std.specs.Prelude.{◌≡◌, All, length, IfOk};
+ghost use Rattle.pdu.specs.Compared.{Compares, Real};
 
 use std::alloc::{AllocError, Global};
 
@@ -26,8 +26,8 @@ fn differences(heap: Global, written: &[u8], read: &[u8]) -> Result<Vec<Differen
     ensures { IfOk result (λ v. All (Real written.now read.now) v.items) }
 {
     let mut list = Vec::new(heap);
-    for (place, ours) in written.iter().enumerate() {
-        let bits = *ours ^ read[place];
+    for (place, (ours, theirs)) in written.iter().zip(read).enumerate() {
+        let bits = *ours ^ *theirs;
         if bits != 0 {
             list.push(Difference { place, bits })?;
         }

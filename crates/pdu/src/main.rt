@@ -6,7 +6,6 @@
 
 mod contents;
 mod differences;
-mod names;
 mod requests;
 mod show;
 
@@ -29,9 +28,8 @@ fn answer(rt: &HostRuntime, request: &Request) -> io::Result<()> {
 }
 
 fn main(rt: HostRuntime) -> io::Result<()> {
-    let mut number = 0u64;
-    for line in BufReader::new(rt.alloc(), rt.stdin())?.lines(rt.alloc()) {
-        number = number.saturating_add(1);
+    let lines = BufReader::new(rt.alloc(), rt.stdin())?.lines(rt.alloc());
+    for (number, line) in (1u64..).zip(lines) {
         let line = match line {
             Ok(line) => line,
             Err(error) => return println!(rt; "line {number}: {error}"),

@@ -17,18 +17,12 @@ pub(crate) enum BadLine {
     UnknownEnd,
     NoBytes,
     MoreWords,
-    OddDigits,
-    BadDigit,
-    NoMemory,
+    Digits(BadHex),
 }
 
 impl From<BadHex> for BadLine {
     fn from(bad: BadHex) -> BadLine {
-        match bad {
-            BadHex::OddDigits => BadLine::OddDigits,
-            BadHex::BadDigit => BadLine::BadDigit,
-            BadHex::NoMemory => BadLine::NoMemory,
-        }
+        BadLine::Digits(bad)
     }
 }
 
@@ -42,10 +36,9 @@ impl Request {
             Some("far") => End::Far,
             Some(_) => return Err(BadLine::UnknownEnd),
         };
-        let bytes = match words.next() {
-            None => return Err(BadLine::NoBytes),
-            Some("-") => Vec::new(heap),
-            Some(digits) => decode(heap, digits.as_bytes())?,
+        let bytes = match words.next().ok_or(BadLine::NoBytes)? {
+            "-" => Vec::new(heap),
+            digits => decode(heap, digits.as_bytes())?,
         };
         match words.next() {
             None => Ok(Some(Request { end, bytes })),

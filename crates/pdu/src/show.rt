@@ -1,11 +1,10 @@
 //! What is printed.
 
 use crate::contents::{Content, Failure};
-use crate::differences::Comparison;
-use crate::names::{bad_line_words, bytes_word, end_name, layer_name, refusal_words, segment_name};
+use crate::differences::{Comparison, Difference};
 use crate::requests::{BadLine, Request};
 use std::fmt;
-use wire::{Entry, Header, Missing, Segment};
+use wire::Fault;
 
 /// The most bytes that are shown of a part.
 const SHOWN: usize = 16;
@@ -32,7 +31,7 @@ impl fmt::Display for Hex<'_> {
 
 impl fmt::Display for Request {
     fn fmt<W: fmt::Write>(&self, f: &mut fmt::Formatter<W>) -> fmt::Result {
-        let end = end_name(self.end);
+        let end = self.end;
         let bytes = Hex(self.bytes.as_slice());
         write!(f, "{end} {bytes}")
     }
@@ -40,7 +39,12 @@ impl fmt::Display for Request {
 
 impl fmt::Display for BadLine {
     fn fmt<W: fmt::Write>(&self, f: &mut fmt::Formatter<W>) -> fmt::Result {
-        f.write_str(bad_line_words(self))
+        match self {
+            BadLine::UnknownEnd => f.write_str("unknown end, neither near nor far"),
+            BadLine::NoBytes => f.write_str("no bytes after the end"),
+            BadLine::MoreWords => f.write_str("more than two words"),
+            BadLine::Digits(bad) => write!(f, "{bad}"),
+        }
     }
 }
 
@@ -50,34 +54,13 @@ impl fmt::Display for Failure {
             Failure::Refused(fault) => *fault,
             Failure::NoMemory => return f.write_str("no memory"),
         };
-        let number = fault.refusal.number();
-        let layer = layer_name(fault.refusal.layer());
-        let words = refusal_words(fault.refusal);
-        let place = fault.place;
-        write!(f, "refused by {number} ({layer}) at byte {place}: {words}")
-    }
-}
-
-fn show_header<W: fmt::Write>(header: Header, f: &mut fmt::Formatter<W>) -> fmt::Result {
-    let kind = segment_name(header.segment);
-    let sn = header.sn.value();
-    let poll = if header.poll { "poll" } else { "no poll" };
-    write!(f, "{kind}: SN {sn}, {poll}")?;
-    match header.segment {
-        Segment::Whole | Segment::First => Ok(()),
-        Segment::Middle { so } | Segment::Last { so } => write!(f, ", SO {so}"),
-    }
-}
-
-fn show_entry<W: fmt::Write>(entry: Entry, f: &mut fmt::Formatter<W>) -> fmt::Result {
-    let sn = entry.nack_sn.value();
-    match entry.missing {
-        Missing::Every => write!(f, ", NACK {sn} whole"),
-        Missing::Span {
-            so_start,
-            so_end: 0xFFFF,
-        } => write!(f, ", NACK {sn} from byte {so_start}"),
-        Missing::Span { so_start, so_end } => write!(f, ", NACK {sn} bytes {so_start} to {so_end}"),
+        let Fault { refusal, place } = fault;
+        let number = refusal.number();
+        let layer = refusal.layer();
+        write!(
+            f,
+            "refused by {number} ({layer}) at byte {place}: {refusal}"
+        )
     }
 }
 
@@ -85,12 +68,14 @@ impl fmt::Display for Content<'_> {
     fn fmt<W: fmt::Write>(&self, f: &mut fmt::Formatter<W>) -> fmt::Result {
         match self {
             Content::Amd { header, data } => {
-                show_header(*header, f)?;
                 let count = data.bytes.len();
-                let unit = bytes_word(count);
+                let unit = if count == 1 { "byte" } else { "bytes" };
                 let place = data.place;
                 let bytes = Hex(data.bytes);
-                write!(f, ", {count} {unit} of data from byte {place} on: {bytes}")
+                write!(
+                    f,
+                    "{header}, {count} {unit} of data from byte {place} on: {bytes}"
+                )
             }
             Content::Status { ack_sn, entries } => {
                 let sn = ack_sn.value();
@@ -98,8 +83,8 @@ impl fmt::Display for Content<'_> {
                 if entries.is_empty() {
                     return write!(f, ", no NACK");
                 }
-                for entry in entries.as_slice() {
-                    show_entry(*entry, f)?;
+                for entry in entries {
+                    write!(f, ", {entry}")?;
                 }
                 Ok(())
             }
@@ -115,9 +100,7 @@ impl fmt::Display for Comparison {
             Comparison::Differs(list) => {
                 write!(f, "differs in reserved bits")?;
                 let mut mark = ": ";
-                for difference in list.as_slice() {
-                    let place = difference.place;
-                    let bits = difference.bits;
+                for Difference { place, bits } in list {
                     write!(f, "{mark}byte {place} has {bits:02X}")?;
                     mark = ", ";
                 }

@@ -1,4 +1,4 @@
-//! PDUs as bytes: sequence numbers, a reader of received PDUs, and writers into lent buffers; and the grants
+//! PDUs as bytes and as text: sequence numbers, a reader of received PDUs, and writers into lent buffers; and the grants
 //! that let an end send one.
 #![tactic(auto)]
 
@@ -10,6 +10,7 @@ mod grants;
 mod numbers;
 mod pdus;
 mod reading;
+mod shown;
 mod writing;
 
 pub use counts::{Count, Pdcp, PdcpCount, Rlc, RlcCount};

@@ -1,5 +1,5 @@
-use Rattle.pdu.specs.Compared.{All, Real}
-use Rattle.std.proofs.Common.{vec_items}
+use Rattle.pdu.specs.Compared.{Real}
+use Rattle.std.proofs.Common.{All, vec_items}
 use Rattle.pdu.proofs.differences.differences.Given as goal
 
 abbrev pub invariant-loop-place : goal.invariant-loop-place

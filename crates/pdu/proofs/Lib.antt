@@ -1,2 +1,0 @@
-mod Listing
-mod Taken
