@@ -6,7 +6,6 @@
 #![tactic(auto)]
 
 mod airs;
-mod entries;
 mod fades;
 mod orders;
 mod queue_airs;
