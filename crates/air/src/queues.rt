@@ -66,8 +66,7 @@ impl Queue {
 
     /// Makes all that waits older by one, and loses what reaches the age limit.
     pub(crate) fn grow_older(&mut self)
-        ensures after { waits self.new ≡ aged (waits self.old) }
-        ensures meaning { Within (waits self.new) (aged (waits self.old)) }
+        ensures { waits self.new ≡ aged (waits self.old) }
     {
         self.held.retain(|held| {
             // An age below the limit never saturates.
@@ -88,8 +87,7 @@ impl Queue {
 
     /// Makes all that waits older, and adds the PDU if an air carries it; a full queue loses its oldest.
     pub(crate) fn put(&mut self, pdu: &[u8])
-        ensures after { waits self.new ≡ put_in pdu.now (waits self.old) }
-        ensures meaning { Within (waits self.new) (after_put pdu.now (waits self.old)) }
+        ensures { waits self.new ≡ put_in pdu.now (waits self.old) }
     {
         self.grow_older();
         if !carries(pdu) {
@@ -117,8 +115,7 @@ impl Queue {
         draw: u16,
         buffer: &mut [u8],
     ) -> Option<usize>
-        ensures took { Took k stays draw buffer.old result buffer.new (waits self.old) (waits self.new) }
-        ensures meaning { Answers draw buffer.old result buffer.new (waits self.old) (waits self.new) }
+        ensures { Took k stays draw buffer.old result buffer.new (waits self.old) (waits self.new) }
     {
         if !takes(draw, buffer) {
             return None;

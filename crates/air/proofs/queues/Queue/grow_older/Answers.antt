@@ -1,6 +1,5 @@
 use Rattle.std.proofs.Common.{◌≡◌, map, sym, subst, arith, rules}
 use Rattle.air.proofs.Ages.{aged_retained, sound_aged, older_aged}
-use Rattle.air.proofs.Lets.{within_aged}
 use Rattle.air.proofs.queues.Queue.grow_older.Goals as goal
 use Rattle.air.specs.Meaning.{Sound}
 use Rattle.air.specs.Queues.{waiting_of, Older}
@@ -19,7 +18,4 @@ invariant_of-self c =
     }
 
 pub returns : goal.returns
-returns c =
-    let q = c.args.self.now in
-    let is : map waiting_of c.retain.new.self.items ≡ aged (waits q) = aged_retained _ (λ f x b g y step. search rules) _ _ _ c.retain.ensures.filtered in
-    record { after = is; meaning = within_aged (waits q) _ is }
+returns c = aged_retained _ (λ f x b g y step. search rules) _ _ _ c.retain.ensures.filtered
