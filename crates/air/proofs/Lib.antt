@@ -1,6 +1,3 @@
+pub mod Ages
 pub mod Emptied
-pub mod Notes
-pub mod Fronts
-pub mod Pushes
 pub mod Lets
-pub mod Masks

@@ -1,6 +1,7 @@
 -- What pipe and pool keep: at most 8 PDUs, of which a Put into a full one loses the oldest.
-use Rattle.std.specs.Prelude.{◌≡◌, ℕ, ◌-◌, ◌/◌, ◌%◌, Bool, cond, List, length, drop, None, Option, ◌==◌}
+use Rattle.std.specs.Prelude.{◌≡◌, ℕ, ◌-◌, ◌/◌, ◌%◌, ◌<◌, Bool, cond, List, length, drop, None, Option, ◌==◌}
 use Rattle.air.specs.Queues.{capacity}
+use Rattle.std.proofs.Common.{arith}
 use Rattle.protocol.specs.Airs.{Waiting, after_put, takes, laid}
 use Rattle.protocol.specs.Bytes.{Bytes}
 use Rattle.std.specs.Option.{option_map}
@@ -37,8 +38,11 @@ pub record Took (k : ℕ) (keeps : Bool) (draw : ℕ) (buffer : Bytes) (answer :
 
 -- The pipe takes the oldest, k = 0, and removes it. The pool takes the ((draw div 2) mod held)-th, and keeps it if the
 -- draw is odd.
-abbrev pub drawn : ℕ → List Waiting → ℕ
-drawn draw waiting = draw / 2 % length waiting
+abbrev pub drawn : ℕ → ℕ → ℕ
+drawn draw held = draw / 2 % held
+
+pub drawn_within : (draw held : ℕ) → 0 < held → drawn draw held < held
+drawn_within draw held some = omega (arith, some)
 
 abbrev pub odd : ℕ → Bool
 odd draw = draw % 2 == 1

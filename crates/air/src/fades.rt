@@ -39,11 +39,7 @@ impl<A: Air> Fade<A> {
     pub fn into_below(self) -> A
         ensures { result ≡ self.below }
     {
-        let Fade {
-            below,
-            mask: _,
-            number: _,
-        } = self;
+        let Fade { below, .. } = self;
         below
     }
 }

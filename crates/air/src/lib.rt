@@ -6,13 +6,11 @@
 #![tactic(auto)]
 
 mod airs;
-mod entries;
 mod fades;
-mod pipes;
-mod pools;
+mod orders;
+mod queue_airs;
 mod queues;
 
 pub use airs::{AGE_LIMIT, Air, MAX_DRAW, MAX_PDU, empty};
 pub use fades::Fade;
-pub use pipes::Pipe;
-pub use pools::Pool;
+pub use queue_airs::{Pipe, Pool};

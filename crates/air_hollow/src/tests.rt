@@ -1,21 +1,18 @@
 use super::Hollow;
 use air::{Air, Fade, Pipe, Pool};
 
-/// The first byte of what a Take lets out; 0 where there is none.
-fn taken<A: Air>(air: &mut A, draw: u16) -> u8 {
+/// The first byte of what a Take lets out.
+fn taken<A: Air>(air: &mut A, draw: u16) -> Option<u8> {
     let mut buffer = [0; 520];
-    match air.take(draw, &mut buffer) {
-        Some(_) => buffer[0],
-        None => 0,
-    }
+    air.take(draw, &mut buffer)?;
+    Some(buffer[0])
 }
 
 /// Puts the PDUs of one byte from `first` to `last`.
 fn put_all<A: Air>(air: &mut A, first: u8, last: u8) {
-    for b in first..last {
+    for b in first..=last {
         air.put(&[b]);
     }
-    air.put(&[last]);
 }
 
 fn skip_times<A: Air>(air: &mut A, times: u8) {
@@ -28,7 +25,7 @@ fn skip_times<A: Air>(air: &mut A, times: u8) {
 fn hollow_lets_nothing_out(rt: HostRuntime) {
     let mut hollow = Fade::new(Hollow, 0);
     put_all(&mut hollow, 1, 3);
-    assert_eq!(rt; taken(&mut hollow, 0), 0);
+    assert_eq!(rt; taken(&mut hollow, 0), None);
 }
 
 #[test]
@@ -36,21 +33,21 @@ fn full_pipe_loses_the_oldest(rt: HostRuntime) {
     let mut pipe = Pipe::new();
     put_all(&mut pipe, 1, 9);
     for b in 2..10 {
-        assert_eq!(rt; taken(&mut pipe, 1), b);
+        assert_eq!(rt; taken(&mut pipe, 1), Some(b));
     }
-    assert_eq!(rt; taken(&mut pipe, 0), 0);
+    assert_eq!(rt; taken(&mut pipe, 0), None);
 }
 
 #[test]
 fn odd_draw_keeps(rt: HostRuntime) {
     let mut pool = Pool::new();
     put_all(&mut pool, 1, 3);
-    assert_eq!(rt; taken(&mut pool, 5), 3);
-    assert_eq!(rt; taken(&mut pool, 4), 3, "the odd draw kept it");
-    assert_eq!(rt; taken(&mut pool, 4), 1, "two are held");
-    assert_eq!(rt; taken(&mut pool, 8191), 2);
-    assert_eq!(rt; taken(&mut pool, 8190), 2);
-    assert_eq!(rt; taken(&mut pool, 8190), 0);
+    assert_eq!(rt; taken(&mut pool, 5), Some(3));
+    assert_eq!(rt; taken(&mut pool, 4), Some(3), "the odd draw kept it");
+    assert_eq!(rt; taken(&mut pool, 4), Some(1), "two are held");
+    assert_eq!(rt; taken(&mut pool, 8191), Some(2));
+    assert_eq!(rt; taken(&mut pool, 8190), Some(2));
+    assert_eq!(rt; taken(&mut pool, 8190), None);
 }
 
 #[test]
@@ -58,11 +55,11 @@ fn age_64_is_lost(rt: HostRuntime) {
     let mut pipe = Pipe::new();
     pipe.put(&[7]);
     skip_times(&mut pipe, 63);
-    assert_eq!(rt; taken(&mut pipe, 0), 7);
+    assert_eq!(rt; taken(&mut pipe, 0), Some(7));
     pipe.put(&[8]);
     skip_times(&mut pipe, 63);
     pipe.put(&[9]);
-    assert_eq!(rt; taken(&mut pipe, 0), 9);
+    assert_eq!(rt; taken(&mut pipe, 0), Some(9));
 }
 
 #[test]
@@ -72,13 +69,13 @@ fn mask_bits_count_puts(rt: HostRuntime) {
     fade.put(&[]);
     fade.skip();
     put_all(&mut fade, 2, 3);
-    assert_eq!(rt; taken(&mut fade, 0), 1);
-    assert_eq!(rt; taken(&mut fade, 0), 3, "Put 1 is lost");
+    assert_eq!(rt; taken(&mut fade, 0), Some(1));
+    assert_eq!(rt; taken(&mut fade, 0), Some(3), "Put 1 is lost");
     put_all(&mut fade, 4, 66);
-    assert_eq!(rt; taken(&mut fade, 0), 58, "Put 65 is lost as Put 1");
+    assert_eq!(rt; taken(&mut fade, 0), Some(58), "Put 65 is lost as Put 1");
     let mut again = Fade::new(fade.into_below(), 1);
     put_all(&mut again, 70, 72);
-    assert_eq!(rt; taken(&mut again, 0), 60, "a new fade counts from 0");
+    assert_eq!(rt; taken(&mut again, 0), Some(60), "a new fade counts from 0");
 }
 
 #[test]
@@ -86,9 +83,9 @@ fn other_lengths_and_draws(rt: HostRuntime) {
     let mut pool = Pool::new();
     let long = [5; 521];
     pool.put(&long);
-    assert_eq!(rt; taken(&mut pool, 0), 0);
+    assert_eq!(rt; taken(&mut pool, 0), None);
     pool.put(&long[0..520]);
-    assert_eq!(rt; taken(&mut pool, 8192), 0);
+    assert_eq!(rt; taken(&mut pool, 8192), None);
     let mut buffer = [0; 600];
     assert_eq!(rt; pool.take(1, &mut buffer[0..519]), None);
     assert_eq!(rt; pool.take(1, &mut buffer), Some(520));

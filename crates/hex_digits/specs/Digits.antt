@@ -1,5 +1,6 @@
 -- Hexadecimal digits, by the codes of their characters.
-use Rattle.std.specs.Prelude.{◌≡◌, ℕ, ◌+◌, ◌*◌, ◌<◌, ◌≤◌, ◌⊎◌, List, length, slice_index}
+use Rattle.std.specs.Prelude.{◌≡◌, ℕ, ◌+◌, ◌*◌, ◌/◌, ◌%◌, ◌<◌, ◌≤◌, ◌⊎◌, cond, List, [], ◌∷◌, length, nat_lt, slice_index}
+use Rattle.std.specs.List.{flat_map}
 
 -- 0 to 9, then A to F or a to f
 abbrev pub Digit : ℕ → ℕ → Type 0
@@ -12,3 +13,14 @@ Byte high low byte = (h : ℕ) × (l : ℕ) × Digit high h × Digit low l × (b
 -- each byte has two digits
 abbrev pub Spelt : List ℕ → List ℕ → Type 0
 Spelt digits bytes = (k : ℕ) → k < length bytes → Byte (slice_index digits (2 * k)) (slice_index digits (2 * k + 1)) (slice_index bytes k)
+
+-- the digit that is written for a value: 0 to 9, then a to f
+abbrev pub digit_of : ℕ → ℕ
+digit_of value = cond (nat_lt value 10) (48 + value) (87 + value)
+
+abbrev pub digits_of : ℕ → List ℕ
+digits_of byte = digit_of (byte / 16) ∷ digit_of (byte % 16) ∷ []
+
+-- the text of bytes, two digits for each
+abbrev pub text_of : List ℕ → List ℕ
+text_of bytes = flat_map digits_of bytes

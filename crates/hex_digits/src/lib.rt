@@ -1,15 +1,16 @@
-//! Bytes from hexadecimal digits.
+//! Bytes from hexadecimal digits, and back.
 
 #![tactic(auto)]
 
-ghost use Rattle.std.specs.Prelude.{◌≡◌, ℕ, ◌*◌, ◌<◌, length, IfSome, IfOk, vec_len, MatchOption};
-ghost use Rattle.hex_digits.specs.Digits.{Digit, Byte, Spelt};
+ghost use Rattle.std.specs.Prelude.{◌≡◌, ℕ, ◌*◌, ◌<◌, length, Some, IfSome, IfOk, vec_len, MatchOption};
+ghost use Rattle.hex_digits.specs.Digits.{Digit, Byte, Spelt, digits_of, text_of};
+ghost use Rattle.std.specs.Fmt.{WritesOnOk};
 
 use std::alloc::{AllocError, AllocFailed, Global};
 use std::fmt;
 
 /// Why digits give no bytes.
-#[derive(Drop)]
+#[derive(Clone, Copy, Debug, PartialEq, Eq)]
 pub enum BadHex {
     OddDigits,
     BadDigit,
@@ -62,14 +63,32 @@ pub fn decode(heap: Global, digits: &[u8]) -> Result<Vec<u8>, BadHex>
     ensures { IfOk result (λ v. (2 * vec_len v ≡ length digits.now) × Spelt digits.now v.items) }
 {
     let mut bytes = Vec::new(heap);
-    for i in 0..digits.len() / 2 {
-        match byte_of(digits[2 * i], digits[2 * i + 1]) {
-            Some(byte) => bytes.push(byte)?,
-            None => return Err(BadHex::BadDigit),
-        }
+    for pair in digits.chunks_exact(2) {
+        bytes.push(byte_of(pair[0], pair[1]).ok_or(BadHex::BadDigit)?)?;
     }
     if digits.len() % 2 == 1 {
         return Err(BadHex::OddDigits);
     }
     Ok(bytes)
+}
+
+fn write_byte<W: fmt::Write>(byte: u8, f: &mut fmt::Formatter<W>) -> fmt::Result
+    ensures { WritesOnOk W.write_str_gives f.old result (digits_of byte) f.new }
+{
+    write!(f, "{byte:02x}")
+}
+
+/// Bytes that print as two digits each, the letters in lower case.
+#[derive(Clone, Copy)]
+pub struct Hex<'a>(pub &'a [u8]);
+
+impl fmt::Display for Hex<'_> {
+    ghost output = { λ hex. Some (text_of hex.0.now) };
+
+    fn fmt<W: fmt::Write>(&self, f: &mut fmt::Formatter<W>) -> fmt::Result {
+        for byte in self.0 {
+            write_byte(*byte, f)?;
+        }
+        Ok(())
+    }
 }

@@ -2,14 +2,15 @@
 
 ghost use Rattle.std.specs.Prelude.{◌≤◌, IfSome};
 
+use crate::scripts::Kind;
 use air::{Air, Fade, Pipe, Pool};
+use hex_digits::Hex;
+use std::fmt;
 
-/// An air of each kind, of which the script uses one.
 #[derive(Drop)]
-pub(crate) struct Carrier {
-    pipe: Fade<Pipe>,
-    pool: Fade<Pool>,
-    pooled: bool,
+pub(crate) enum Carrier {
+    Pipe(Fade<Pipe>),
+    Pool(Fade<Pool>),
 }
 
 /// A Take; what any air lets out fits a PDU's buffer.
@@ -20,47 +21,54 @@ fn take_from<A: Air>(air: &mut A, draw: u16, buffer: &mut [u8]) -> Option<usize>
 }
 
 impl Carrier {
-    /// New airs under this mask.
-    pub(crate) fn new(pooled: bool, mask: u64) -> Self {
-        Carrier {
-            pipe: Fade::new(Pipe::new(), mask),
-            pool: Fade::new(Pool::new(), mask),
-            pooled,
+    /// A new air of this kind, under this mask.
+    pub(crate) fn new(kind: Kind, mask: u64) -> Self {
+        match kind {
+            Kind::Pipe => Carrier::Pipe(Fade::new(Pipe::new(), mask)),
+            Kind::Pool => Carrier::Pool(Fade::new(Pool::new(), mask)),
         }
     }
 
     pub(crate) fn put(&mut self, pdu: &[u8]) {
-        if self.pooled {
-            self.pool.put(pdu)
-        } else {
-            self.pipe.put(pdu)
+        match self {
+            Carrier::Pipe(air) => air.put(pdu),
+            Carrier::Pool(air) => air.put(pdu),
         }
     }
 
     pub(crate) fn skip(&mut self) {
-        if self.pooled {
-            self.pool.skip()
-        } else {
-            self.pipe.skip()
+        match self {
+            Carrier::Pipe(air) => air.skip(),
+            Carrier::Pool(air) => air.skip(),
         }
     }
 
     pub(crate) fn take(&mut self, draw: u16, buffer: &mut [u8]) -> Option<usize>
         ensures { IfSome result (λ n. n ≤ 520) }
     {
-        if self.pooled {
-            take_from(&mut self.pool, draw, buffer)
-        } else {
-            take_from(&mut self.pipe, draw, buffer)
+        match self {
+            Carrier::Pipe(air) => take_from(air, draw, buffer),
+            Carrier::Pool(air) => take_from(air, draw, buffer),
         }
     }
 
     /// The k-th PDU that waits, oldest first, and its age.
-    pub(crate) fn get(&self, k: usize) -> Option<(&[u8], u8)> {
-        if self.pooled {
-            self.pool.below().get(k)
-        } else {
-            self.pipe.below().get(k)
+    fn get(&self, k: usize) -> Option<(&[u8], u8)> {
+        match self {
+            Carrier::Pipe(air) => air.below().get(k),
+            Carrier::Pool(air) => air.below().get(k),
         }
+    }
+}
+
+/// What waits, oldest first, each with its age.
+impl fmt::Display for Carrier {
+    fn fmt<W: fmt::Write>(&self, f: &mut fmt::Formatter<W>) -> fmt::Result {
+        write!(f, "waits:")?;
+        for (pdu, age) in (0..8).filter_map(|k| self.get(k)) {
+            let bytes = Hex(pdu);
+            write!(f, " {bytes}@{age}")?;
+        }
+        Ok(())
     }
 }

@@ -7,57 +7,41 @@
 mod carriers;
 mod scripts;
 
+use air::MAX_PDU;
 use carriers::Carrier;
-use scripts::{Command, parse, push_hex};
-use std::alloc::{AllocError, Global};
+use hex_digits::Hex;
+use scripts::{Command, Kind};
+use std::io;
 
-/// Writes what waits, oldest first, each with its age.
-fn push_listing(heap: Global, text: &mut String, carrier: &Carrier) -> Result<(), AllocError> {
-    text.push_str("  waits:")?;
-    for k in 0..8 {
-        if let Some((pdu, age)) = carrier.get(k) {
-            text.push(' ')?;
-            push_hex(text, pdu)?;
-            text.push('@')?;
-            text.push_str(age.to_string(heap)?.as_str())?;
-        }
-    }
-    Ok(())
-}
-
-/// Writes what a Take lets out.
-fn push_out(text: &mut String, carrier: &mut Carrier, draw: u16) -> Result<(), AllocError> {
-    let mut buffer = [0; 520];
-    text.push_str("  out: ")?;
+/// Makes a Take, and prints what it lets out.
+fn take(rt: &impl Print, carrier: &mut Carrier, draw: u16) -> io::Result<()> {
+    let mut buffer = [0; MAX_PDU];
     match carrier.take(draw, &mut buffer) {
-        Some(length) => push_hex(text, &buffer[0..length])?,
-        None => text.push_str("none")?,
+        Some(length) => println!(rt; "  out: {}", Hex(&buffer[..length])),
+        None => println!(rt; "  out: none"),
     }
-    text.push('\n')
 }
 
-/// Carries a command out, and answers what is to be printed of it.
-fn obey(heap: Global, carrier: &mut Carrier, command: Command) -> Result<String, AllocError> {
-    let mut text = String::new(heap);
+/// Carries a command out, and prints what comes out and what waits.
+fn obey(rt: &impl Print, carrier: &mut Carrier, command: Command) -> io::Result<()> {
     match command {
-        Command::Start { pooled, mask } => *carrier = Carrier::new(pooled, mask),
+        Command::Start { kind, mask } => *carrier = Carrier::new(kind, mask),
         Command::Put(pdu) => carrier.put(pdu.as_slice()),
         Command::Skip => carrier.skip(),
-        Command::Take(draw) => push_out(&mut text, carrier, draw)?,
+        Command::Take(draw) => take(rt, carrier, draw)?,
     }
-    push_listing(heap, &mut text, carrier)?;
-    Ok(text)
+    println!(rt; "  {carrier}")
 }
 
 fn run(rt: &HostRuntime) -> anyhow::Result<()> {
     let heap = rt.alloc();
-    let mut carrier = Carrier::new(false, 0);
+    let mut carrier = Carrier::new(Kind::Pipe, 0);
     for line in rt.lines(heap) {
         let line = line?;
         rt.println(line.as_str())?;
-        match parse(heap, line.as_str()) {
-            Ok(command) => rt.println(obey(heap, &mut carrier, command)?)?,
-            Err(fault) => rt.println(fault)?,
+        match Command::parse(heap, line.as_str()) {
+            Ok(command) => obey(rt, &mut carrier, command)?,
+            Err(fault) => println!(rt; "  error: {fault}")?,
         }
     }
     Ok(())

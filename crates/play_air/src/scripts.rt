@@ -1,72 +1,99 @@
 //! The lines of a script.
 
-ghost use Rattle.std.specs.Prelude.{◌<◌};
-
 use hex_digits::{BadHex, decode};
-use std::alloc::{AllocError, Global};
+use std::alloc::Global;
+use std::error::Error;
+use std::fmt;
+use std::str::FromStr;
+
+/// The kinds of air that a script names.
+#[derive(Clone, Copy, Debug, PartialEq, Eq)]
+pub(crate) enum Kind {
+    Pipe,
+    Pool,
+}
 
 #[derive(Drop)]
 pub(crate) enum Command {
-    Start { pooled: bool, mask: u64 },
+    Start { kind: Kind, mask: u64 },
     Put(Vec<u8>),
     Skip,
     Take(u16),
 }
 
-/// Reads a line, or says what is wrong with it.
-pub(crate) fn parse(heap: Global, line: &str) -> Result<Command, &'static str> {
-    let mut words = line.split_whitespace();
-    let verb = words.next().unwrap_or("");
-    let first = words.next().unwrap_or("");
-    let second = words.next().unwrap_or("");
-    if words.next().is_some() {
-        return Err("  error: too many words");
-    }
-    match (verb, first, second) {
-        ("air", _, _) => start(first, second),
-        ("put", _, "") => match decode(heap, first.as_bytes()) {
-            Ok(pdu) => Ok(Command::Put(pdu)),
-            Err(BadHex::NoMemory) => Err("  error: no memory"),
-            Err(_) => Err("  error: put takes bytes, two hexadecimal digits each"),
-        },
-        ("skip", "", _) => Ok(Command::Skip),
-        ("take", _, "") => match first.parse::<u16>() {
-            Ok(draw) => Ok(Command::Take(draw)),
-            Err(_) => Err("  error: take takes a draw, 0 to 65535"),
-        },
-        _ => Err("  error: a line is air KIND MASK, put BYTES, skip or take DRAW"),
+/// Why a line is no command.
+#[derive(Clone, Copy, Debug, PartialEq, Eq)]
+pub(crate) enum BadLine {
+    MoreWords,
+    UnknownVerb,
+    UnknownKind,
+    BadMask,
+    BadBytes,
+    BadDraw,
+    NoMemory,
+}
+
+impl fmt::Display for BadLine {
+    fn fmt<W: fmt::Write>(&self, f: &mut fmt::Formatter<W>) -> fmt::Result {
+        f.write_str(match self {
+            BadLine::MoreWords => "too many words",
+            BadLine::UnknownVerb => "a line is air KIND MASK, put BYTES, skip or take DRAW",
+            BadLine::UnknownKind => "an air is pipe or pool",
+            BadLine::BadMask => "the mask has 1 to 16 hexadecimal digits",
+            BadLine::BadBytes => "put takes bytes, two hexadecimal digits each",
+            BadLine::BadDraw => "take takes a draw, 0 to 65535",
+            BadLine::NoMemory => "no memory",
+        })
     }
 }
 
-fn start(kind: &str, mask: &str) -> Result<Command, &'static str> {
-    let Ok(mask) = u64::from_str_radix(mask, 16) else {
-        return Err("  error: the mask has 1 to 16 hexadecimal digits");
-    };
-    match kind {
-        "pipe" => Ok(Command::Start {
-            pooled: false,
-            mask,
-        }),
-        "pool" => Ok(Command::Start { pooled: true, mask }),
-        _ => Err("  error: an air is pipe or pool"),
+impl Error for BadLine {}
+
+impl From<BadHex> for BadLine {
+    fn from(bad: BadHex) -> BadLine {
+        match bad {
+            BadHex::NoMemory => BadLine::NoMemory,
+            BadHex::OddDigits | BadHex::BadDigit => BadLine::BadBytes,
+        }
     }
 }
 
-fn digit_of(value: u8) -> char
-    requires { value < 16 }
-{
-    char::from(if value < 10 {
-        b'0' + value
-    } else {
-        b'a' + (value - 10)
-    })
+impl FromStr for Kind {
+    type Err = BadLine;
+
+    fn from_str(word: &str) -> Result<Kind, BadLine> {
+        match word {
+            "pipe" => Ok(Kind::Pipe),
+            "pool" => Ok(Kind::Pool),
+            _ => Err(BadLine::UnknownKind),
+        }
+    }
 }
 
-/// Writes bytes as hexadecimal digits.
-pub(crate) fn push_hex(text: &mut String, bytes: &[u8]) -> Result<(), AllocError> {
-    for b in bytes {
-        text.push(digit_of(*b / 16))?;
-        text.push(digit_of(*b % 16))?;
+impl Command {
+    /// The command of a line.
+    pub(crate) fn parse(heap: Global, line: &str) -> Result<Command, BadLine> {
+        let mut words = line.split_whitespace();
+        match (words.next(), words.next(), words.next(), words.next()) {
+            (_, _, _, Some(_)) => Err(BadLine::MoreWords),
+            (Some("air"), kind, mask, _) => Command::start(kind.unwrap_or(""), mask.unwrap_or("")),
+            (Some("put"), digits, None, _) => Ok(Command::Put(decode(
+                heap,
+                digits.unwrap_or("").as_bytes(),
+            )?)),
+            (Some("skip"), None, _, _) => Ok(Command::Skip),
+            (Some("take"), draw, None, _) => draw
+                .unwrap_or("")
+                .parse()
+                .map(Command::Take)
+                .map_err(|_| BadLine::BadDraw),
+            _ => Err(BadLine::UnknownVerb),
+        }
     }
-    Ok(())
+
+    fn start(kind: &str, mask: &str) -> Result<Command, BadLine> {
+        let mask = u64::from_str_radix(mask, 16).map_err(|_| BadLine::BadMask)?;
+        let kind = kind.parse()?;
+        Ok(Command::Start { kind, mask })
+    }
 }

@@ -1,26 +1,24 @@
-use Rattle.std.proofs.Common.{◌≡◌, ◌+◌, ◌*◌, length, get_or, vec_len, sym, ap, ◌∙◌, subst, arith, [], ◌∷◌, ◌++◌}
-use Rattle.std.proofs.Math.ListN.{get_or-append}
-use Rattle.std.proofs.Math.Seq.{get_or-append_seam}
-use Rattle.hex_digits.proofs.Spelling.{spelt_more}
+use Rattle.std.proofs.Common.{◌≡◌, ◌*◌, ◌++◌, drop, length, vec_len, slice_index, sym, ◌∙◌, ap, subst, arith, rules, length-append, length-drop}
+use Rattle.std.proofs.lemmas.List.{drop-drop, drop_at}
+use Rattle.hex_digits.proofs.Spelling.{spelt_push}
 use Rattle.hex_digits.proofs.decode.Goals as goal
-use Rattle.hex_digits.specs.Digits.{Byte}
+use Rattle.hex_digits.specs.Digits.{Byte, Spelt}
 
-pub loop-i-preserved : goal.loop-i-preserved
-loop-i-preserved c =
+pub loop-pair-preserved : goal.loop-pair-preserved
+loop-pair-preserved c =
     let digits = c.args.digits.now in
-    let old = c.loop-i.bytes in
-    let new = c.push.new.self in
-    let i = c.loop-i.i in
-    let at : vec_len old ≡ i = c.loop-i.invariant.0 in
-    let pushed = c.in_ok-push-in-Some.ensures in
-    let longer : vec_len new ≡ vec_len old + 1 = pushed.len in
-    let before : length old.items ≡ i = omega (arith, old.ok.0, at) in
-    let after : length new.items ≡ i + 1 = omega (arith, new.ok.0, at, longer) in
-    let last : get_or new.items i 0 ≡ c.in-Some.byte =
-    ap (λ items. get_or items i 0) pushed.items ∙ ap (λ m. get_or (old.items ++ c.in-Some.byte ∷ []) m 0) (sym before) ∙ get_or-append_seam old.items c.in-Some.byte [] 0 in (
-      omega (arith, at, longer),
-      spelt_more digits old.items new.items i before after
-          (λ k lt. ap (λ items. get_or items k 0) pushed.items ∙ get_or-append old.items (c.in-Some.byte ∷ []) 0 k (omega (arith, lt, before)))
-          c.loop-i.invariant.1
-          (subst (Byte (get_or digits (2 * i) 0) (get_or digits (2 * i + 1) 0)) (sym last) c.in-Some.ensures),
-    )
+    let old = c.loop-pair.bytes in
+    let pair = c.in-Some.pair.now in
+    let rest = c.next.new.self.rest.now in
+    let pushed = c.in_ok-push.ensures in
+    let byte : Byte (slice_index pair 0) (slice_index pair 1) c.in_ok-ok_or.field-0 = search rules in
+    let size : c.next.new.self.size ≡ 2 = search rules in
+    let two : length pair ≡ 2 = search rules in
+    let ahead : drop (2 * vec_len old) digits ≡ pair ++ rest = search rules in
+    let long = ap length ahead ∙ length-append pair rest in
+    let rest_is : rest ≡ drop (2 * vec_len c.push.new.self) digits =
+    sym (drop_at pair rest 2 two) ∙ ap (drop 2) (sym ahead) ∙ drop-drop 2 (2 * vec_len old) digits ∙ ap (λ n. drop n digits) (omega (arith, pushed.len)) in
+    let more : Spelt digits c.push.new.self.items =
+    subst (Spelt digits) (sym pushed.items)
+    (spelt_push digits old.items pair rest c.in_ok-ok_or.field-0 (ap (λ n. drop (2 * n) digits) (sym old.ok.0) ∙ ahead) two byte c.loop-pair.invariant.3) in
+    (size, rest_is, omega (arith, pushed.len, long, two, length-drop (2 * vec_len old) digits), more)

@@ -1,8 +1,5 @@
-use Rattle.air.proofs.Emptied.{none_younger, skip_older, none_left}
+use Rattle.air.proofs.Emptied.{skip_older, none_left}
 use Rattle.air.proofs.airs.empty.Goals as goal
-
-pub loop-init : goal.loop-init
-loop-init g c = none_younger _
 
 pub loop-preserved : goal.loop-preserved
 loop-preserved g c = skip_older _ _ _ c.skip.ensures.meaning c.loop.invariant
