@@ -101,8 +101,7 @@ impl Receiver {
         ensures { state_of self.new ≡ after tick_pdcp (state_of self.old) }
     {
         if self.t_reordering.tick() {
-            let deliv = self.next_missing(self.rx_reord);
-            self.rx_deliv = deliv;
+            self.rx_deliv = self.next_missing(self.rx_reord);
             self.start_reordering();
         }
     }

@@ -1,12 +1,13 @@
 //! A script at a far end: RLC's receiving side, and PDCP above it.
 
+use crate::failures::Failure;
 use crate::scripts::Command;
-use crate::shown::{show_bytes, show_refusal, show_sent};
+use crate::shown::Sent;
+use hex_digits::Hex;
 use pdcp::Receiver;
-use rlc_rx::{Completed, FarEnd, Reception};
-use std::alloc::{AllocError, Global};
+use rlc_rx::{FarEnd, Reception};
 use timers::Settings;
-use wire::{Fault, Grant, Refusal};
+use wire::{Grant, Refusal};
 
 #[derive(Drop)]
 pub(crate) struct FarSide {
@@ -22,67 +23,54 @@ impl FarSide {
         }
     }
 
-    fn spend(&mut self, heap: Global, size: usize) -> Result<String, AllocError> {
+    fn spend(&mut self, rt: &impl Print, size: usize) -> Result<(), Failure> {
         let mut buffer = [0; 512];
-        match Grant::open(size) {
-            Ok(grant) => {
-                let answer = self.end.spend(grant, &mut buffer);
-                show_sent(heap, answer, &buffer)
-            }
-            Err(fault) => show_refusal(heap, fault),
-        }
+        let grant = Grant::open(size)?;
+        let length = self.end.spend(grant, &mut buffer)?.min(buffer.len());
+        println!(rt; "  {}", Sent(&buffer[..length]))?;
+        Ok(())
     }
 
-    fn hand_up(&mut self, heap: Global, completed: Completed) -> Result<String, AllocError> {
-        match self.pdcp.receive(self.end.sdu(&completed)) {
-            Ok(()) => {
-                let due = self.pdcp.due();
-                format!(in heap; "  handed up {due}")
-            }
-            Err(fault) => show_refusal(heap, fault),
-        }
-    }
-
-    fn read(&mut self, heap: Global, bytes: &[u8]) -> Result<String, AllocError> {
+    fn read(&mut self, rt: &impl Print, bytes: &[u8]) -> Result<(), Failure> {
         if self.pdcp.due() > 0 {
-            let refusal = Refusal::PacketDue;
-            return show_refusal(heap, Fault { refusal, place: 0 });
+            return Err(Refusal::PacketDue.at(0).into());
         }
-        let reception = match self.end.read(bytes) {
-            Ok(reception) => reception,
-            Err(fault) => return show_refusal(heap, fault),
-        };
-        match reception {
-            Reception::Discarded => format!(in heap; "  discarded"),
-            Reception::Kept => format!(in heap; "  kept"),
-            Reception::HandedUp(completed) => self.hand_up(heap, completed),
+        match self.end.read(bytes)? {
+            Reception::Discarded => println!(rt; "  discarded")?,
+            Reception::Kept => println!(rt; "  kept")?,
+            Reception::HandedUp(completed) => {
+                self.pdcp.receive(self.end.sdu(&completed))?;
+                println!(rt; "  handed up {}", self.pdcp.due())?;
+            }
         }
+        Ok(())
     }
 
-    fn collect(&mut self, heap: Global) -> Result<String, AllocError> {
+    fn collect(&mut self, rt: &impl Print) -> Result<(), Failure> {
         let mut buffer = [0; 500];
-        match self.pdcp.collect(&mut buffer) {
-            Ok(Some(length)) if length <= buffer.len() => show_bytes(
-                heap,
-                "collected",
-                &buffer[0..length],
-            ),
-            Ok(_) => format!(in heap; "  none"),
-            Err(fault) => show_refusal(heap, fault),
+        match self.pdcp.collect(&mut buffer)? {
+            Some(length) => {
+                let packet = &buffer[..length.min(buffer.len())];
+                println!(rt; "  collected {}", Hex(packet))?;
+            }
+            None => println!(rt; "  none")?,
         }
+        Ok(())
     }
 
-    pub(crate) fn obey(&mut self, heap: Global, command: Command) -> Result<String, AllocError> {
+    /// Carries a command out, and prints its answer.
+    pub(crate) fn obey(&mut self, rt: &impl Print, command: Command) -> Result<(), Failure> {
         match command {
-            Command::Spend(size) => self.spend(heap, size),
-            Command::Read(bytes) => self.read(heap, bytes.as_slice()),
-            Command::Collect => self.collect(heap),
+            Command::Spend(size) => self.spend(rt, size),
+            Command::Read(bytes) => self.read(rt, bytes.as_slice()),
+            Command::Collect => self.collect(rt),
             Command::Tick => {
                 self.end.tick();
                 self.pdcp.tick();
-                format!(in heap; "  ok")
+                println!(rt; "  ok")?;
+                Ok(())
             }
-            _ => format!(in heap; "  error: not at a far end"),
+            _ => Err(Failure::NotAtFarEnd),
         }
     }
 }

@@ -10,15 +10,17 @@
 
 #![tactic(auto)]
 
+mod failures;
 mod far;
 mod near;
 mod scripts;
 mod shown;
 
+use failures::Failure;
 use far::FarSide;
 use near::NearSide;
-use scripts::{Command, parse};
-use std::alloc::{AllocError, Global};
+use scripts::{Command, DEFAULTS};
+use std::io;
 
 /// The end that a script plays at.
 #[derive(Drop)]
@@ -27,34 +29,47 @@ enum Side {
     Far(FarSide),
 }
 
-/// Carries a command out, and answers what is to be printed of it.
-fn obey(heap: Global, side: &mut Side, command: Command) -> Result<String, AllocError> {
-    match command {
-        Command::Near(settings) => {
-            *side = Side::Near(NearSide::new(settings));
-            return format!(in heap; "  ok");
+impl Side {
+    /// Carries a command out, and prints its answer.
+    fn obey(&mut self, rt: &impl Print, command: Command) -> Result<(), Failure> {
+        match command {
+            Command::Near(settings) => {
+                *self = Side::Near(NearSide::new(settings));
+                println!(rt; "  ok")?;
+                return Ok(());
+            }
+            Command::Far(settings) => {
+                *self = Side::Far(FarSide::new(settings));
+                println!(rt; "  ok")?;
+                return Ok(());
+            }
+            _ => {}
         }
-        Command::Far(settings) => {
-            *side = Side::Far(FarSide::new(settings));
-            return format!(in heap; "  ok");
+        match self {
+            Side::Near(near) => near.obey(rt, command),
+            Side::Far(far) => far.obey(rt, command),
         }
-        _ => {}
     }
-    match side {
-        Side::Near(near) => near.obey(heap, command),
-        Side::Far(far) => far.obey(heap, command),
+}
+
+/// The same; a command that is not carried out prints why.
+fn play(rt: &impl Print, side: &mut Side, command: Command) -> io::Result<()> {
+    match side.obey(rt, command) {
+        Ok(()) => Ok(()),
+        Err(Failure::Output(error)) => Err(error),
+        Err(failure) => println!(rt; "  {failure}"),
     }
 }
 
 fn run(rt: &HostRuntime) -> anyhow::Result<()> {
     let heap = rt.alloc();
-    let mut side = Side::Near(NearSide::new(scripts::default_settings()));
+    let mut side = Side::Near(NearSide::new(DEFAULTS));
     for line in rt.lines(heap) {
         let line = line?;
         rt.println(line.as_str())?;
-        match parse(heap, line.as_str()) {
-            Ok(command) => rt.println(obey(heap, &mut side, command)?)?,
-            Err(fault) => rt.println(fault)?,
+        match Command::parse(heap, line.as_str()) {
+            Ok(command) => play(rt, &mut side, command)?,
+            Err(bad) => println!(rt; "  error: {bad}")?,
         }
     }
     Ok(())

@@ -1,9 +1,9 @@
 //! A script at a near end.
 
+use crate::failures::Failure;
 use crate::scripts::Command;
-use crate::shown::{show_refusal, show_sent};
+use crate::shown::Sent;
 use rlc_tx::{NearEnd, Report};
-use std::alloc::{AllocError, Global};
 use timers::Settings;
 use wire::Grant;
 
@@ -19,45 +19,32 @@ impl NearSide {
         }
     }
 
-    fn give(&mut self, heap: Global, packet: &[u8]) -> Result<String, AllocError> {
-        match self.end.give(packet) {
-            Ok(count) => {
-                let count = count.value();
-                format!(in heap; "  COUNT {count}")
-            }
-            Err(fault) => show_refusal(heap, fault),
-        }
-    }
-
-    fn spend(&mut self, heap: Global, size: usize) -> Result<String, AllocError> {
+    fn spend(&mut self, rt: &impl Print, size: usize) -> Result<(), Failure> {
         let mut buffer = [0; 512];
-        match Grant::open(size) {
-            Ok(grant) => {
-                let answer = self.end.spend(grant, &mut buffer);
-                show_sent(heap, answer, &buffer)
-            }
-            Err(fault) => show_refusal(heap, fault),
-        }
+        let grant = Grant::open(size)?;
+        let length = self.end.spend(grant, &mut buffer)?.min(buffer.len());
+        println!(rt; "  {}", Sent(&buffer[..length]))?;
+        Ok(())
     }
 
-    fn read(&mut self, heap: Global, bytes: &[u8]) -> Result<String, AllocError> {
-        match self.end.read(bytes) {
-            Ok(Report::Stale) => format!(in heap; "  stale"),
-            Ok(Report::Taken) => format!(in heap; "  taken"),
-            Err(fault) => show_refusal(heap, fault),
-        }
-    }
-
-    pub(crate) fn obey(&mut self, heap: Global, command: Command) -> Result<String, AllocError> {
+    /// Carries a command out, and prints its answer.
+    pub(crate) fn obey(&mut self, rt: &impl Print, command: Command) -> Result<(), Failure> {
         match command {
-            Command::Give(packet) => self.give(heap, packet.as_slice()),
-            Command::Spend(size) => self.spend(heap, size),
-            Command::Read(bytes) => self.read(heap, bytes.as_slice()),
+            Command::Give(packet) => {
+                let count = self.end.give(packet.as_slice())?;
+                println!(rt; "  COUNT {}", count.value())?;
+            }
+            Command::Spend(size) => self.spend(rt, size)?,
+            Command::Read(bytes) => match self.end.read(bytes.as_slice())? {
+                Report::Stale => println!(rt; "  stale")?,
+                Report::Taken => println!(rt; "  taken")?,
+            },
             Command::Tick => {
                 self.end.tick();
-                format!(in heap; "  ok")
+                println!(rt; "  ok")?;
             }
-            _ => format!(in heap; "  error: not at a near end"),
+            _ => return Err(Failure::NotAtNearEnd),
         }
+        Ok(())
     }
 }

@@ -1,7 +1,8 @@
 //! The lines of a script.
 
-use hex_digits::decode;
+use hex_digits::{BadHex, decode};
 use std::alloc::Global;
+use std::fmt;
 use timers::Settings;
 
 #[derive(Drop)]
@@ -15,86 +16,104 @@ pub(crate) enum Command {
     Collect,
 }
 
-/// Settings before any are read; an end's own are then written over them.
-pub(crate) fn default_settings() -> Settings {
-    Settings {
-        poll_pdu: None,
-        max_retx: 4,
-        t_poll_retransmit: 40,
-        t_reassembly: 20,
-        t_status_prohibit: 1,
-        t_reordering: None,
+/// Why a line is no command.
+#[derive(Clone, Copy)]
+pub(crate) enum BadLine {
+    UnknownVerb,
+    NearSettings,
+    FarSettings,
+    BadSetting,
+    LargePollPdu,
+    BadSize,
+    BadBytes,
+}
+
+impl fmt::Display for BadLine {
+    fn fmt<W: fmt::Write>(&self, f: &mut fmt::Formatter<W>) -> fmt::Result {
+        f.write_str(match self {
+            BadLine::UnknownVerb => "a line is near, far, give, grant, read, tick or collect",
+            BadLine::NearSettings => "near takes pollPDU, maxRetx and t-PollRetransmit",
+            BadLine::FarSettings => "far takes t-Reassembly, t-StatusProhibit and t-Reordering",
+            BadLine::BadSetting => "a setting is a number, or - if it may be absent",
+            BadLine::LargePollPdu => "pollPDU is at most 255",
+            BadLine::BadSize => "grant takes a size",
+            BadLine::BadBytes => "bytes have two hexadecimal digits each",
+        })
     }
 }
 
-fn bytes_of(heap: Global, digits: &str) -> Result<Vec<u8>, &'static str> {
-    match decode(heap, digits.as_bytes()) {
-        Ok(bytes) => Ok(bytes),
-        Err(_) => Err("  error: bytes have two hexadecimal digits each"),
+impl From<BadHex> for BadLine {
+    fn from(_: BadHex) -> BadLine {
+        BadLine::BadBytes
     }
 }
+
+/// Settings before any are read; an end's own are then written over them.
+pub(crate) const DEFAULTS: Settings = Settings {
+    poll_pdu: None,
+    max_retx: 4,
+    t_poll_retransmit: 40,
+    t_reassembly: 20,
+    t_status_prohibit: 1,
+    t_reordering: None,
+};
 
 /// A number that may be absent.
-fn optional(word: &str) -> Result<Option<u16>, &'static str> {
+fn optional(word: &str) -> Result<Option<u16>, BadLine> {
     match word {
         "-" => Ok(None),
-        _ => match word.parse::<u16>() {
-            Ok(n) => Ok(Some(n)),
-            Err(_) => Err("  error: a setting is a number, or - if it may be absent"),
-        },
+        _ => word.parse().map(Some).map_err(|_| BadLine::BadSetting),
     }
 }
 
-fn start_near(poll_pdu: &str, max_retx: &str, timer: &str) -> Result<Command, &'static str> {
-    let poll_pdu = match optional(poll_pdu)? {
-        Some(n) => match u8::try_from(n) {
-            Ok(n) => Some(n),
-            Err(_) => return Err("  error: pollPDU is at most 255"),
-        },
-        None => None,
+/// The same of at most 255.
+fn small(number: Option<u16>) -> Result<Option<u8>, BadLine> {
+    let Some(number) = number else {
+        return Ok(None);
     };
-    match (max_retx.parse::<u8>(), timer.parse::<u16>()) {
-        (Ok(max_retx), Ok(t_poll_retransmit)) => Ok(Command::Near(Settings {
-            poll_pdu,
-            max_retx,
-            t_poll_retransmit,
-            ..default_settings()
-        })),
-        _ => Err("  error: near takes pollPDU, maxRetx and t-PollRetransmit"),
-    }
+    u8::try_from(number)
+        .map(Some)
+        .map_err(|_| BadLine::LargePollPdu)
 }
 
-fn start_far(reassembly: &str, prohibit: &str, reordering: &str) -> Result<Command, &'static str> {
-    let t_reordering = optional(reordering)?;
-    match (reassembly.parse::<u16>(), prohibit.parse::<u16>()) {
-        (Ok(t_reassembly), Ok(t_status_prohibit)) => Ok(Command::Far(Settings {
-            t_reassembly,
-            t_status_prohibit,
-            t_reordering,
-            ..default_settings()
-        })),
-        _ => Err("  error: far takes t-Reassembly, t-StatusProhibit and t-Reordering"),
+impl Command {
+    fn near(poll_pdu: &str, max_retx: &str, timer: &str) -> Result<Command, BadLine> {
+        Ok(Command::Near(Settings {
+            poll_pdu: small(optional(poll_pdu)?)?,
+            max_retx: max_retx.parse().map_err(|_| BadLine::NearSettings)?,
+            t_poll_retransmit: timer.parse().map_err(|_| BadLine::NearSettings)?,
+            ..DEFAULTS
+        }))
     }
-}
 
-/// Reads a line, or says what is wrong with it.
-pub(crate) fn parse(heap: Global, line: &str) -> Result<Command, &'static str> {
-    let mut words = line.split_whitespace();
-    let verb = words.next().unwrap_or("");
-    let first = words.next().unwrap_or("");
-    let second = words.next().unwrap_or("");
-    let third = words.next().unwrap_or("");
-    match (verb, first, second) {
-        ("near", _, _) => start_near(first, second, third),
-        ("far", _, _) => start_far(first, second, third),
-        ("give", _, "") => Ok(Command::Give(bytes_of(heap, first)?)),
-        ("grant", _, "") => match first.parse::<usize>() {
-            Ok(size) => Ok(Command::Spend(size)),
-            Err(_) => Err("  error: grant takes a size"),
-        },
-        ("read", _, "") => Ok(Command::Read(bytes_of(heap, first)?)),
-        ("tick", "", _) => Ok(Command::Tick),
-        ("collect", "", _) => Ok(Command::Collect),
-        _ => Err("  error: a line is near, far, give, grant, read, tick or collect"),
+    fn far(reassembly: &str, prohibit: &str, reordering: &str) -> Result<Command, BadLine> {
+        Ok(Command::Far(Settings {
+            t_reordering: optional(reordering)?,
+            t_reassembly: reassembly.parse().map_err(|_| BadLine::FarSettings)?,
+            t_status_prohibit: prohibit.parse().map_err(|_| BadLine::FarSettings)?,
+            ..DEFAULTS
+        }))
+    }
+
+    /// The command of a line.
+    pub(crate) fn parse(heap: Global, line: &str) -> Result<Command, BadLine> {
+        let mut words = line.split_whitespace();
+        let verb = words.next().unwrap_or("");
+        let first = words.next().unwrap_or("");
+        let second = words.next().unwrap_or("");
+        let third = words.next().unwrap_or("");
+        match (verb, first, second) {
+            ("near", _, _) => Command::near(first, second, third),
+            ("far", _, _) => Command::far(first, second, third),
+            ("give", _, "") => Ok(Command::Give(decode(heap, first.as_bytes())?)),
+            ("grant", _, "") => first
+                .parse()
+                .map(Command::Spend)
+                .map_err(|_| BadLine::BadSize),
+            ("read", _, "") => Ok(Command::Read(decode(heap, first.as_bytes())?)),
+            ("tick", "", _) => Ok(Command::Tick),
+            ("collect", "", _) => Ok(Command::Collect),
+            _ => Err(BadLine::UnknownVerb),
+        }
     }
 }

@@ -14,7 +14,7 @@ invariant_of-self-then-tick c =
     let reord = r.rx_reord.value in
     let t = timer_of r.t_reordering in
     let bounds = missing_within (stored_of r.store) r.rx_next.value reord r.begun in
-    let same = c.next_missing-deliv.ensures in
+    let same = c.next_missing-self.ensures in
     let out : runs_out t ≡ true = sym c.if-tick.ensures.1 in
     let before : r.rx_deliv.value ≤ reord = r.timed (runs_before t out) in
     record {
