@@ -8,6 +8,6 @@ pub mod Absorbs
 pub mod Arrives
 pub mod Takes
 pub mod GivesUp
-pub mod Stretches
+pub mod Gaps
 pub mod Listing
 pub mod Writes

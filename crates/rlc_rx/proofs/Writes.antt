@@ -8,7 +8,7 @@ use Rattle.protocol.specs.Receiving as far
 use Rattle.protocol.specs.Writing.{write, written, pdu_fault}
 use Rattle.protocol.proofs.Drafting.{draft_writes, length-put_at}
 use Rattle.protocol.proofs.Reports.{EntryBetween, Reports, report_from_right, entries_bytes, entries_fit, entries_valid}
-use Rattle.rlc_rx.proofs.Stretches.{limit_short}
+use Rattle.rlc_rx.proofs.Gaps.{limit_short}
 use Rattle.rlc_rx.specs.Slots.{partials}
 use Rattle.rlc_rx.specs.Windows.{sdus_in}
 use Rattle.rlc_rx.specs.declared.slots.Slot.{Slot}

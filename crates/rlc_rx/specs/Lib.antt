@@ -5,4 +5,5 @@ pub mod Windows
 pub mod Views
 pub mod Receptions
 pub mod Gaps
+pub mod Entries
 pub mod Spending

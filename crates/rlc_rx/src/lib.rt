@@ -5,6 +5,7 @@ mod advances;
 mod checks;
 mod counters;
 mod ends;
+mod entries;
 mod flags;
 mod opening;
 mod read;

@@ -12,6 +12,7 @@ ghost use Rattle.wire.specs.Drafted.{draft_of};
 
 use crate::counters::later;
 use crate::ends::FarEnd;
+use crate::entries::SduEntries;
 use crate::reporting::Event;
 use crate::windows::slot_at;
 use timers::Timer;
@@ -36,11 +37,11 @@ impl FarEnd {
                 continue;
             }
             let count = later(first, x - start);
-            let length = slot.entries_length();
+            let length = SduEntries::new(slot, count).bytes();
             if length > room {
                 return Ok(count);
             }
-            slot.add_entries(count, draft, buffer)?;
+            SduEntries::new(slot, count).add_to(draft, buffer)?;
             room -= length;
         }
         Ok(self.counters.rx_highest_status)

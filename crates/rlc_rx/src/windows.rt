@@ -33,13 +33,13 @@ pub(crate) fn incomplete_from(slots: &[Slot; WINDOW], from: u32, to: u32) -> u32
     requires ordered { from ≤ to }
     ensures { result ≡ seek (λ x. not (complete (in_ring (partials slots.now) x nothing_held))) (to - from) from }
 {
-    for x in from..to {
-        let slot = &slots[x as usize % WINDOW];
-        if !slot.is_complete() {
-            return x;
-        }
-    }
-    to
+    (from..to)
+        .find(
+            |&x|
+                ensures { result ≡ not (complete (in_ring (partials slots.entry.now) x nothing_held)) }
+            { !slots[x as usize % WINDOW].is_complete() },
+        )
+        .unwrap_or(to)
 }
 
 /// Answers the polls of the counts from `from` to before `to`, and whether there was one.
