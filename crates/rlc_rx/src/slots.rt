@@ -4,12 +4,11 @@ ghost use Rattle.std.specs.Prelude.{◌≡◌, ◌-◌, ◌≤◌, true, false, 
 ghost use Rattle.protocol.specs.Reading.{max_sdu};
 ghost use Rattle.protocol.specs.Receiving.{nothing_held, complete, has_hole, missing_from, held_from, data_end, marks_end, clashes_with, clashes as clash, received, reception, limit as limit_of, gap_end as gap_end_of};
 ghost use Rattle.rlc_rx.specs.Flags.{tally, NoneFrom, EndsAt, bounds};
-ghost use Rattle.wire.specs.Views.{amd_of, segment_of};
+ghost use Rattle.rlc_rx.specs.DataPdus.{data_pdu_of};
 
+use crate::data_pdus::DataPdu;
 use crate::flags::{find_flag, put};
-use crate::segments::{marks_end, offset};
 use std::mem;
-use wire::Header;
 
 /// The longest SDU: a packet of 500 bytes with its PDCP header.
 pub(crate) const MAX_SDU: usize = 502;
@@ -139,41 +138,42 @@ impl Slot {
 
     /// Whether the data passes the known end, reaches it unmarked, marks another one, or marks an end before a
     /// byte that is held.
-    pub(crate) fn clashes(&self, header: Header, data: &[u8]) -> bool
-        requires { data_end (amd_of header «data».now) ≤ 502 }
-        ensures { result ≡ clash (partial_of self.now) (amd_of header «data».now) }
+    pub(crate) fn clashes(&self, pdu: &DataPdu) -> bool
+        ensures { result ≡ clash (partial_of self.now) (data_pdu_of pdu.now) }
     {
-        let end = offset(header.segment) + data.len();
-        let marked = marks_end(header.segment);
+        let end = pdu.end();
+        let marked = pdu.marks_end();
         misfits(self.known_end, end, marked) || self.cuts_off(end, marked)
     }
 
-    /// The end that is known once the segment, whose data ends at `end`, was received.
-    fn end_after(&self, header: Header, end: usize) -> Option<usize>
-        ensures { result ≡ (if marks_end (segment_of header.segment) then Some end else self.now.known_end) }
+    /// The end that is known once the PDU was received.
+    fn end_after(&self, pdu: &DataPdu) -> Option<usize>
+        ensures { result ≡ (if marks_end (data_pdu_of pdu.now).segment then Some (data_end (data_pdu_of pdu.now)) else self.now.known_end) }
     {
-        if marks_end(header.segment) {
-            Some(end)
+        if pdu.marks_end() {
+            Some(pdu.end())
         } else {
             self.known_end
         }
     }
 
-    /// Keeps the bytes that are new, and learns the end that the segment marks.
-    pub(crate) fn receive(&mut self, header: Header, data: &[u8])
-        requires some { 1 ≤ length «data».now }
-        requires room { data_end (amd_of header «data».now) ≤ 502 }
-        requires fits { clash (partial_of self.old) (amd_of header «data».now) ≡ false }
-        ensures sdu { partial_of self.new ≡ received (amd_of header «data».now) (partial_of self.old) }
-        ensures poll { self.new.poll ≡ (self.old.poll || header.poll) }
+    /// Keeps the bytes that are new, and learns the end that the PDU marks.
+    pub(crate) fn receive(&mut self, pdu: &DataPdu)
+        requires { clash (partial_of self.old) (data_pdu_of pdu.now) ≡ false }
+        ensures sdu { partial_of self.new ≡ received (data_pdu_of pdu.now) (partial_of self.old) }
+        ensures poll { self.new.poll ≡ (self.old.poll || (data_pdu_of pdu.now).poll) }
     {
-        let start = offset(header.segment);
-        let end = start + data.len();
         let top = self.top;
-        let poll = self.poll || header.poll;
-        self.known_end = self.end_after(header, end);
-        self.count += put(&mut self.bytes, &mut self.held, top, start, data);
-        self.top = top.max(end);
+        let poll = self.poll || pdu.header.poll;
+        self.known_end = self.end_after(pdu);
+        self.count += put(
+            &mut self.bytes,
+            &mut self.held,
+            top,
+            pdu.offset(),
+            pdu.payload,
+        );
+        self.top = top.max(pdu.end());
         self.poll = poll;
     }
 

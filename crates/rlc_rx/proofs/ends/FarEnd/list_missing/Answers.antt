@@ -30,7 +30,7 @@ loop-x-preserved-then-is_complete c =
     let room = c.loop-x.room in
     let inv = c.loop-x.invariant in
     let more : x < f.rx_highest_status = omega (arith, c.value-x-end.ensures, c.loop-x-test.true) in
-    let done : far.complete (f.sdu x) ≡ true = sym (ap far.complete c.slot_at-slot.ensures) ∙ sym c.is_complete.ensures ∙ c.if-is_complete.true in
+    let done : far.complete (f.sdu x) ≡ true = sym (ap far.complete c.slot-slot.ensures) ∙ sym c.is_complete.ensures ∙ c.if-is_complete.true in
     let on = report_complete f f.rx_highest_status x room more done in
     (inv.0 ∙ ap (λ r. r.ack) on, inv.1 ∙ ap (λ r. fill r.entries (draft_of c.loop-x.draft) c.loop-x.buffer) on, inv.2)
 
@@ -41,10 +41,10 @@ returns-then-length-room c =
     let room = c.loop-x.room in
     let inv = c.loop-x.invariant in
     let more : x < f.rx_highest_status = omega (arith, c.value-x-end.ensures, c.loop-x-test.true) in
-    let lacks : far.complete (f.sdu x) ≡ false = sym (ap far.complete c.slot_at-slot.ensures) ∙ sym c.is_complete.ensures ∙ c.if-is_complete.false in
+    let lacks : far.complete (f.sdu x) ≡ false = sym (ap far.complete c.slot-slot.ensures) ∙ sym c.is_complete.ensures ∙ c.if-is_complete.false in
     let at : count_of c.later-count.result ≡ x = omega (arith, c.later-count.ensures, c.value-start.ensures, c.loop-x.auto.x) in
     let own-is : entries_left c.new.result ≡ far.sdu_entries x (f.sdu x) =
-    c.new.ensures ∙ ap (λ y. far.sdu_entries y (partial_of c.slot_at-slot.result.now)) at ∙ ap (far.sdu_entries x) c.slot_at-slot.ensures in
+    c.new.ensures ∙ ap (λ y. far.sdu_entries y (partial_of c.slot-slot.result.now)) at ∙ ap (far.sdu_entries x) c.slot-slot.ensures in
     let long : room < far.entries_length (far.sdu_entries x (f.sdu x)) = omega (arith, c.if-length-room.true, c.bytes-length.ensures, ap far.entries_length own-is) in
     let stops = report_stops f f.rx_highest_status x room more lacks long in
     (at ∙ sym (inv.0 ∙ ap (λ r. r.ack) stops), inv.1 ∙ ap (λ r. fill r.entries (draft_of c.loop-x.draft) c.loop-x.buffer) stops)
@@ -62,10 +62,10 @@ returns-in_err-add_to c =
     let fault = c.in_err-add_to.field-0.0 in
     let own = far.sdu_entries x (f.sdu x) in
     let more : x < f.rx_highest_status = omega (arith, c.value-x-end.ensures, c.loop-x-test.true) in
-    let lacks : far.complete (f.sdu x) ≡ false = sym (ap far.complete c.slot_at-slot.ensures) ∙ sym c.is_complete.ensures ∙ c.if-is_complete.false in
+    let lacks : far.complete (f.sdu x) ≡ false = sym (ap far.complete c.slot-slot.ensures) ∙ sym c.is_complete.ensures ∙ c.if-is_complete.false in
     let at : count_of c.later-count.result ≡ x = omega (arith, c.later-count.ensures, c.value-start.ensures, c.loop-x.auto.x) in
     let own-is : entries_left c.new.result ≡ far.sdu_entries x (f.sdu x) =
-    c.new.ensures ∙ ap (λ y. far.sdu_entries y (partial_of c.slot_at-slot.result.now)) at ∙ ap (far.sdu_entries x) c.slot_at-slot.ensures in
+    c.new.ensures ∙ ap (λ y. far.sdu_entries y (partial_of c.slot-slot.result.now)) at ∙ ap (far.sdu_entries x) c.slot-slot.ensures in
     let size : c.bytes-length.result ≡ far.entries_length own = c.bytes-length.ensures ∙ ap far.entries_length own-is in
     let lists = report_lists f f.rx_highest_status x room more lacks (omega (arith, c.if-length-room.false, size)) in
     let adds = c.in_err-add_to.ensures ∙ ap (λ es. fill es d b) (c.new-in-loop-x.ensures ∙ sym c.new.ensures ∙ own-is) in
@@ -87,10 +87,10 @@ loop-x-preserved c =
     let b' = c.add_to.new.buffer in
     let own = far.sdu_entries x (f.sdu x) in
     let more : x < f.rx_highest_status = omega (arith, c.value-x-end.ensures, c.loop-x-test.true) in
-    let lacks : far.complete (f.sdu x) ≡ false = sym (ap far.complete c.slot_at-slot.ensures) ∙ sym c.is_complete.ensures ∙ c.if-is_complete.false in
+    let lacks : far.complete (f.sdu x) ≡ false = sym (ap far.complete c.slot-slot.ensures) ∙ sym c.is_complete.ensures ∙ c.if-is_complete.false in
     let at : count_of c.later-count.result ≡ x = omega (arith, c.later-count.ensures, c.value-start.ensures, c.loop-x.auto.x) in
     let own-is : entries_left c.new.result ≡ far.sdu_entries x (f.sdu x) =
-    c.new.ensures ∙ ap (λ y. far.sdu_entries y (partial_of c.slot_at-slot.result.now)) at ∙ ap (far.sdu_entries x) c.slot_at-slot.ensures in
+    c.new.ensures ∙ ap (λ y. far.sdu_entries y (partial_of c.slot-slot.result.now)) at ∙ ap (far.sdu_entries x) c.slot-slot.ensures in
     let size : c.bytes-length.result ≡ far.entries_length own = c.bytes-length.ensures ∙ ap far.entries_length own-is in
     let lists = report_lists f f.rx_highest_status x room more lacks (omega (arith, c.if-length-room.false, size))
     ∙ ap (λ n. far.behind own (report_at f f.rx_highest_status (x + 1) (room - n))) (sym size) in
@@ -103,7 +103,7 @@ returns c =
     let f = far_of c.args.self.now in
     let x = c.loop-x.x in
     let inv = c.loop-x.invariant in
-    let low : c.value-start.result ≤ c.value-x-end.result = omega (arith, c.value-start.ensures, c.value-x-end.ensures, c.args.self.now.counters.status_from) in
+    let low : c.value-start.result ≤ c.value-x-end.result = omega (arith, c.value-start.ensures, c.value-x-end.ensures, c.args.self.now.window.status_from) in
     let end : x ≡ f.rx_highest_status = omega (arith, c.loop-x.auto.x-end low, c.loop-x-test.false, c.value-x-end.ensures) in
     let over = report_over f f.rx_highest_status x c.loop-x.room (omega (arith, end)) in
     (sym end ∙ sym (inv.0 ∙ ap (λ r. r.ack) over), inv.1 ∙ ap (λ r. fill r.entries (draft_of c.loop-x.draft) c.loop-x.buffer) over)
