@@ -13,7 +13,7 @@ use Rattle.rlc_rx.specs.declared.windows.Window.{Window}
 use Rattle.rlc_rx.proofs.Moves.{open_from, open_low, open_high, open_open, past, past_from, past_to, past_ordered, past_open, sdus_raised, sdus_same, polls_found}
 use Rattle.rlc_rx.proofs.Places.{window_seen, window_unseen, window_now, seen_was, polls_answered}
 use Rattle.std.proofs.lemmas.List.{length-map}
-use Rattle.wire.specs.Views.{count_of}
+use Rattle.wire.specs.Counts.{count_of}
 
 abbrev pub next : Window → ℕ
 next w = count_of w.rx_next

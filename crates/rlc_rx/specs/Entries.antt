@@ -6,7 +6,7 @@ use Rattle.protocol.specs.Reading.{max_sdu}
 use Rattle.protocol.specs.Receiving.{Partial, held_from, gaps}
 use Rattle.rlc_rx.specs.Slots.{partial_of}
 use Rattle.rlc_rx.specs.declared.entries.SduEntries.{SduEntries}
-use Rattle.wire.specs.Views.{count_of}
+use Rattle.wire.specs.Counts.{count_of}
 
 -- those of the gaps from some byte on; none: behind the last one
 abbrev pub entries_from : Partial → (x : ℕ) → Option ℕ → List Entry

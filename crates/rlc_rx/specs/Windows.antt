@@ -6,7 +6,7 @@ use Rattle.protocol.specs.Timers.{Timer, stopped}
 use Rattle.rlc_rx.specs.Rings.{sdus_in, far_in}
 use Rattle.rlc_rx.specs.Slots.{partials, polls}
 use Rattle.rlc_rx.specs.declared.windows.Window.{Window}
-use Rattle.wire.specs.Views.{count_of}
+use Rattle.wire.specs.Counts.{count_of}
 
 abbrev pub sdus_of : Window → ℕ → Partial
 sdus_of w = sdus_in (count_of w.rx_next) (count_of w.rx_next_highest) (partials w.slots)

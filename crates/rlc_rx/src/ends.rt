@@ -4,27 +4,22 @@ ghost use Rattle.std.specs.Prelude.{◌≡◌, ◌-◌, ◌≤◌, true, false, 
 ghost use Rattle.protocol.specs.Bytes.{put};
 ghost use Rattle.protocol.specs.Drafts.{fill};
 ghost use Rattle.protocol.specs.Pdus.{encode};
-ghost use Rattle.protocol.specs.Reading.{decode};
-ghost use Rattle.protocol.specs.Receiving.{new_far, clashes, received, rx_count, receives, reads, taken, awaited, given_up, tick_reassembly, tick_prohibit, tick_far, report_from, report, report_pdu, spends};
+ghost use Rattle.protocol.specs.Receiving.{new_far, clashes, received, taken, awaited, given_up, tick_reassembly, tick_prohibit, tick_far, report_from, report, report_pdu};
 ghost use Rattle.protocol.specs.Timers.{runs};
-ghost use Rattle.protocol.specs.declared.faults.End.TheVariants.{Far};
 ghost use Rattle.rlc_rx.specs.DataPdus.{data_pdu_of};
 ghost use Rattle.rlc_rx.specs.Windows.{stored, Waits, IsInWindow};
-ghost use Rattle.std.specs.Option.{option_map};
 ghost use Rattle.timers.specs.Views.{timer_of, settings_of};
 ghost use Rattle.wire.specs.Drafted.{draft_of};
-ghost use Rattle.wire.specs.Views.{sn_of, count_of, pdu_of, amd_of};
+ghost use Rattle.wire.specs.Counts.{sn_of, count_of};
 
 use crate::data_pdus::DataPdu;
 use crate::entries::SduEntries;
 use crate::receptions::{Completed, Reception};
 use crate::reporting::Reporting;
-use crate::windows::{Window, later};
+use crate::windows::Window;
+use protocol::PACKET_LIMIT;
 use timers::{Settings, Timer};
-use wire::{Draft, End, Fault, Grant, Header, NotClosed, Pdu, Reader, Refusal, RlcCount, Segment};
-
-/// No link has a packet of this count.
-const PACKET_LIMIT: u32 = 1_000_000;
+use wire::{Draft, End, Fault, Grant, NotClosed, Pdu, Reader, Refusal, RlcCount};
 
 /// RLC's receiving side: it puts SDUs together from segments, and reports what is missing.
 #[derive(Drop)]
@@ -39,14 +34,13 @@ pub struct FarEnd {
 }
 
 impl FarEnd {
-    ghost use Rattle.rlc_rx.specs.Receptions.{sdu_at, answer_of, outcome, amd_in};
-    ghost use Rattle.rlc_rx.specs.Spending.{Listed, spent};
-    ghost use Rattle.rlc_rx.specs.Views.{far_of};
+    ghost use Rattle.rlc_rx.specs.Receptions.{sdu_at, answer_of, receiving, reading};
+    ghost use Rattle.rlc_rx.specs.Spending.{Listed, spending};
+    ghost use Rattle.rlc_rx.specs.Views.{far_of, state_of, after};
 
     /// A far end that has received nothing.
     pub fn new(settings: Settings) -> FarEnd
-        ensures state { far_of result ≡ new_far }
-        ensures kept { result.settings ≡ settings }
+        ensures { state_of result ≡ (settings_of settings, new_far) }
     {
         FarEnd {
             settings,
@@ -61,8 +55,7 @@ impl FarEnd {
     fn await_from(&mut self, low: RlcCount)
         requires from { count_of self.old.window.rx_next ≤ count_of low }
         requires to { count_of low ≤ count_of self.old.window.rx_next_highest }
-        ensures state { far_of self.new ≡ awaited (settings_of self.old.settings) (count_of low) (far_of self.old) }
-        ensures settings { self.new.settings ≡ self.old.settings }
+        ensures state { state_of self.new ≡ after (λ s. awaited s (count_of low)) (state_of self.old) }
         ensures slots { self.new.window.slots ≡ self.old.window.slots }
     {
         if !self.t_reassembly.is_running() && self.window.is_awaited(low) {
@@ -75,8 +68,7 @@ impl FarEnd {
     fn take(&mut self, x: RlcCount, pdu: &DataPdu)
         requires inside { IsInWindow self.old.window (count_of x) }
         requires fits { clashes ((far_of self.old).sdu (count_of x)) (data_pdu_of pdu.now) ≡ false }
-        ensures state { far_of self.new ≡ taken (settings_of self.old.settings) (count_of x) (data_pdu_of pdu.now) (far_of self.old) }
-        ensures settings { self.new.settings ≡ self.old.settings }
+        ensures state { state_of self.new ≡ after (λ s. taken s (count_of x) (data_pdu_of pdu.now)) (state_of self.old) }
         ensures held { stored self.new.window (count_of x) ≡ received (data_pdu_of pdu.now) ((far_of self.old).sdu (count_of x)) }
     {
         self.window.keep(x, pdu);
@@ -89,8 +81,7 @@ impl FarEnd {
     }
 
     fn receive(&mut self, pdu: &DataPdu) -> Result<Reception, Fault>
-        ensures answer { (answer_of self.new result, far_of self.new) ≡ outcome (far_of self.old) (receives (settings_of self.old.settings) (rx_count (far_of self.old) (data_pdu_of pdu.now).sn) (data_pdu_of pdu.now) (far_of self.old)) }
-        ensures settings { self.new.settings ≡ self.old.settings }
+        ensures { (answer_of self.new result, state_of self.new) ≡ receiving (data_pdu_of pdu.now) (state_of self.old) }
     {
         let x = self.window.count(pdu.header.sn);
         if self.window.is_discarded(x, pdu) {
@@ -98,45 +89,27 @@ impl FarEnd {
             return Ok(Reception::Discarded);
         }
         if self.window.clashes(x, pdu) || x.value() >= PACKET_LIMIT {
-            return Err(Fault {
-                refusal: Refusal::EndClash,
-                place: pdu.so_place(),
-            });
+            return Err(Refusal::EndClash.at(pdu.so_place()));
         }
         self.take(x, pdu);
         Ok(self.window.reception(x))
     }
 
-    /// The header and the data of an AMD PDU.
-    fn piece<'a>(pdu: Pdu<'a>) -> Option<(Header, &'a [u8])>
-        ensures { option_map (λ p. amd_of p.0 p.1.now) result ≡ amd_in (pdu_of pdu.entry) }
-    {
-        let (poll, sn, segment, part) = match pdu {
-            Pdu::Whole { poll, sn, data } => (poll, sn, Segment::Whole, data),
-            Pdu::First { poll, sn, data } => (poll, sn, Segment::First, data),
-            Pdu::Middle { poll, sn, so, data } => (poll, sn, Segment::Middle { so }, data),
-            Pdu::Last { poll, sn, so, data } => (poll, sn, Segment::Last { so }, data),
-            Pdu::Status { .. } => return None,
-        };
-        Some((Header { poll, sn, segment }, part.bytes))
-    }
-
     /// Reads a PDU that has arrived.
     pub fn read(&mut self, bytes: &[u8]) -> Result<Reception, Fault>
-        ensures answer { (answer_of self.new result, far_of self.new) ≡ outcome (far_of self.old) (reads (settings_of self.old.settings) (decode Far bytes.now) (far_of self.old)) }
-        ensures settings { self.new.settings ≡ self.old.settings }
+        ensures { (answer_of self.new result, state_of self.new) ≡ reading bytes.now (state_of self.old) }
     {
         let pdu = Reader {
             end: End::Far,
             bytes,
         }
         .read()?;
-        match FarEnd::piece(pdu) {
-            Some((header, payload)) => self.receive(&DataPdu { header, payload }),
-            None => Err(Fault {
-                refusal: Refusal::WrongKind,
-                place: 0,
+        match pdu {
+            Pdu::Amd { header, data } => self.receive(&DataPdu {
+                header,
+                payload: data.bytes,
             }),
+            Pdu::Status { .. } => Err(Refusal::WrongKind.at(0)),
         }
     }
 
@@ -164,7 +137,7 @@ impl FarEnd {
             if slot.is_complete() {
                 continue;
             }
-            let count = later(first, x - start);
+            let count = first.saturating_plus(x - start);
             let length = SduEntries::new(slot, count).bytes();
             if length > room {
                 return Ok(count);
@@ -186,25 +159,18 @@ impl FarEnd {
         let ack = self.list_missing(size - 3, &mut draft, buffer)?;
         match draft.close(ack.sn(), buffer) {
             Ok(closed) => Ok(closed.size()),
-            Err(back) => {
-                let NotClosed { fault, draft: _ } = back;
-                Err(fault)
-            }
+            Err(NotClosed { fault, .. }) => Err(fault),
         }
     }
 
     /// Spends a grant: writes a status report at the buffer's start, if one is wanted, and answers its length.
     pub fn spend(&mut self, grant: Grant, buffer: &mut [u8]) -> Result<usize, Fault>
-        ensures sent { (result, buffer.new, far_of self.new) ≡ spent (far_of self.old) buffer.old (spends (settings_of self.old.settings) grant.size (length buffer.old) (far_of self.old)) }
-        ensures settings { self.new.settings ≡ self.old.settings }
+        ensures { (result, buffer.new, state_of self.new) ≡ spending grant.size buffer.old (state_of self.old) }
     {
         let size = grant.size();
         grant.give_back();
         if buffer.len() < size {
-            return Err(Fault {
-                refusal: Refusal::ShortBuffer,
-                place: 0,
-            });
+            return Err(Refusal::ShortBuffer.at(0));
         }
         if !self.reporting.reports() {
             return Ok(0);
@@ -218,8 +184,7 @@ impl FarEnd {
     /// t-Reassembly has run out: what is missing below the trigger is reported, and what lies beyond is waited for.
     fn give_up(&mut self)
         requires { count_of self.old.window.rx_next ≤ count_of self.old.window.rx_next_status_trigger }
-        ensures state { far_of self.new ≡ given_up (settings_of self.old.settings) (far_of self.old) }
-        ensures settings { self.new.settings ≡ self.old.settings }
+        ensures { state_of self.new ≡ after given_up (state_of self.old) }
     {
         self.window.pass_trigger();
         self.t_reassembly = Timer::Stopped;
@@ -229,8 +194,7 @@ impl FarEnd {
     }
 
     fn tick_reassembly(&mut self)
-        ensures state { far_of self.new ≡ tick_reassembly (settings_of self.old.settings) (far_of self.old) }
-        ensures settings { self.new.settings ≡ self.old.settings }
+        ensures { state_of self.new ≡ after tick_reassembly (state_of self.old) }
     {
         if self.t_reassembly.tick() {
             self.give_up();
@@ -238,8 +202,7 @@ impl FarEnd {
     }
 
     fn tick_prohibit(&mut self)
-        ensures state { far_of self.new ≡ tick_prohibit (far_of self.old) }
-        ensures settings { self.new.settings ≡ self.old.settings }
+        ensures { state_of self.new ≡ after (λ _. tick_prohibit) (state_of self.old) }
     {
         if self.t_status_prohibit.tick() {
             self.reporting.unbar();
@@ -248,8 +211,7 @@ impl FarEnd {
 
     /// One Tick of this end.
     pub fn tick(&mut self)
-        ensures state { far_of self.new ≡ tick_far (settings_of self.old.settings) (far_of self.old) }
-        ensures settings { self.new.settings ≡ self.old.settings }
+        ensures { state_of self.new ≡ after tick_far (state_of self.old) }
     {
         self.tick_reassembly();
         self.tick_prohibit();

@@ -7,7 +7,8 @@ ghost use Rattle.rlc_rx.specs.Slots.{partial_of};
 ghost use Rattle.std.specs.Iterator.{YieldsFirstBy, item_count};
 ghost use Rattle.std.specs.Option.{unwrap_or};
 ghost use Rattle.wire.specs.Drafted.{draft_of, added};
-ghost use Rattle.wire.specs.Views.{count_of, entry_of};
+ghost use Rattle.wire.specs.Counts.{count_of};
+ghost use Rattle.wire.specs.Views.{entry_of};
 
 use crate::slots::Slot;
 use wire::{Draft, Entry, Fault, Missing, RlcCount};

@@ -10,35 +10,33 @@ ghost use Rattle.rlc_rx.specs.Rings.{Cleared};
 
 use crate::data_pdus::DataPdu;
 use crate::slots::Slot;
-
-/// How many counts the window has.
-pub(crate) const WINDOW: usize = 16;
+use protocol::WINDOW_SIZE;
 
 /// Makes room for the counts from `from` to before `to`.
-pub(crate) fn clear(slots: &mut [Slot; WINDOW], from: u32, to: u32)
+pub(crate) fn clear(slots: &mut [Slot; WINDOW_SIZE], from: u32, to: u32)
     requires window { to ≤ from + 16 }
     requires ordered { from ≤ to }
     ensures sdus { Cleared nothing_held from to (partials slots.old) (partials slots.new) }
     ensures flags { Cleared false from to (polls slots.old) (polls slots.new) }
 {
     for x in from..to {
-        let slot = &mut slots[x as usize % WINDOW];
+        let slot = &mut slots[x as usize % WINDOW_SIZE];
         slot.reset();
     }
 }
 
 /// The slot of count x receives a PDU.
-pub(crate) fn receive(slots: &mut [Slot; WINDOW], x: u32, pdu: &DataPdu)
+pub(crate) fn receive(slots: &mut [Slot; WINDOW_SIZE], x: u32, pdu: &DataPdu)
     requires { clashes (in_ring (partials slots.old) x nothing_held) (data_pdu_of pdu.now) ≡ false }
     ensures sdus { partials slots.new ≡ slice_set (partials slots.old) (x % 16) (received (data_pdu_of pdu.now) (in_ring (partials slots.old) x nothing_held)) }
     ensures flags { polls slots.new ≡ slice_set (polls slots.old) (x % 16) (in_ring (polls slots.old) x false || (data_pdu_of pdu.now).poll) }
 {
-    let slot = &mut slots[x as usize % WINDOW];
+    let slot = &mut slots[x as usize % WINDOW_SIZE];
     slot.receive(pdu);
 }
 
 /// The first count from `from` to before `to` that is not complete, or else `to`.
-pub(crate) fn incomplete_from(slots: &[Slot; WINDOW], from: u32, to: u32) -> u32
+pub(crate) fn incomplete_from(slots: &[Slot; WINDOW_SIZE], from: u32, to: u32) -> u32
     requires ordered { from ≤ to }
     ensures { result ≡ seek (λ x. not (complete (in_ring (partials slots.now) x nothing_held))) (to - from) from }
 {
@@ -46,13 +44,13 @@ pub(crate) fn incomplete_from(slots: &[Slot; WINDOW], from: u32, to: u32) -> u32
         .find(
             |&x|
                 ensures { result ≡ not (complete (in_ring (partials slots.entry.now) x nothing_held)) }
-            { !slots[x as usize % WINDOW].is_complete() },
+            { !slots[x as usize % WINDOW_SIZE].is_complete() },
         )
         .unwrap_or(to)
 }
 
 /// Answers the polls of the counts from `from` to before `to`, and whether there was one.
-pub(crate) fn answer_polls(slots: &mut [Slot; WINDOW], from: u32, to: u32) -> bool
+pub(crate) fn answer_polls(slots: &mut [Slot; WINDOW_SIZE], from: u32, to: u32) -> bool
     requires window { to ≤ from + 16 }
     requires ordered { from ≤ to }
     ensures answer { result ≡ nat_lt (seek (λ x. in_ring (polls slots.old) x false) (to - from) from) to }
@@ -61,7 +59,7 @@ pub(crate) fn answer_polls(slots: &mut [Slot; WINDOW], from: u32, to: u32) -> bo
 {
     let mut answered = false;
     for x in from..to {
-        let slot = &mut slots[x as usize % WINDOW];
+        let slot = &mut slots[x as usize % WINDOW_SIZE];
         let asked = slot.answer_poll();
         answered = answered || asked;
     }

@@ -8,10 +8,8 @@ ghost use Rattle.rlc_rx.specs.DataPdus.{data_pdu_of};
 
 use crate::data_pdus::DataPdu;
 use crate::flags::{find_flag, put};
+use protocol::MAX_SDU;
 use std::mem;
-
-/// The longest SDU: a packet of 500 bytes with its PDCP header.
-pub(crate) const MAX_SDU: usize = 502;
 
 /// SOend of a gap that reaches the last byte, where that is not known.
 const TO_THE_END: u16 = 0xFFFF;

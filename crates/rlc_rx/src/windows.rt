@@ -1,18 +1,19 @@
 //! The window of the counts that the far end may still receive.
 
-ghost use Rattle.std.specs.Prelude.{◌≡◌, ◌+◌, ◌^◌, ◌<◌, ◌≤◌, ◌≢◌, length, max, if◌then◌else◌, false, not, ◌&&◌, ◌||◌, ◌==◌, nat_eq, nat_le, nat_lt};
+ghost use Rattle.std.specs.Prelude.{◌≡◌, ◌+◌, ◌<◌, ◌≤◌, ◌≢◌, length, max, if◌then◌else◌, false, not, ◌&&◌, ◌||◌, ◌==◌, nat_eq, nat_le, nat_lt};
 ghost use Rattle.protocol.specs.Numbers.{sn_modulus, count_from};
 ghost use Rattle.protocol.specs.Receiving.{Reporting, new_far, complete, has_hole, discards, clashes as clash, kept, advanced, incomplete_from, reception, triggered_if, answering};
 ghost use Rattle.protocol.specs.Timers.{Timer, stopped};
 ghost use Rattle.rlc_rx.specs.DataPdus.{data_pdu_of};
 ghost use Rattle.rlc_rx.specs.Slots.{partial_of, partials};
-ghost use Rattle.wire.specs.Views.{sn_of, count_of};
+ghost use Rattle.wire.specs.Counts.{sn_of, count_of};
 
 use crate::data_pdus::DataPdu;
 use crate::receptions::{Completed, Reception};
-use crate::rings::{WINDOW, answer_polls, clear, incomplete_from, receive};
+use crate::rings::{answer_polls, clear, incomplete_from, receive};
 use crate::slots::Slot;
-use wire::{Rlc, RlcCount, Sn};
+use protocol::WINDOW_SIZE;
+use wire::{RlcCount, Sn};
 
 /// The window's variables, and its SDUs.
 #[derive(Drop)]
@@ -26,7 +27,7 @@ pub(crate) struct Window {
     /// RX_Next_Highest as t-Reassembly was started.
     rx_next_status_trigger: RlcCount,
     /// The SDU of each count in the window, at the count modulo 16.
-    slots: [Slot; WINDOW],
+    slots: [Slot; WINDOW_SIZE],
     ghost places: { length slots ≡ 16 },
     ghost status_from: { count_of rx_next ≤ count_of rx_highest_status },
     ghost status_to: { count_of rx_highest_status ≤ count_of rx_next_highest },
@@ -35,26 +36,11 @@ pub(crate) struct Window {
     ghost trigger: { count_of rx_next_status_trigger ≤ count_of rx_next_highest },
 }
 
-/// The count `steps` later, which 32 bits hold.
-pub(crate) fn later(count: RlcCount, steps: u32) -> RlcCount
-    requires { count_of count + steps < 2 ^ 32 }
-    ensures { count_of result ≡ count_of count + steps }
-{
-    match count.plus(steps) {
-        Some(count) => count,
-        None => unreachable(),
-    }
-}
-
 /// The variable, moved on to `to` where it is `x`.
 fn moved(variable: RlcCount, x: RlcCount, to: RlcCount) -> RlcCount
     ensures { count_of result ≡ (if nat_eq (count_of variable) (count_of x) then count_of to else count_of variable) }
 {
-    if variable.value() == x.value() {
-        to
-    } else {
-        variable
-    }
+    if variable == x { to } else { variable }
 }
 
 impl Window {
@@ -65,13 +51,13 @@ impl Window {
     pub(crate) fn new() -> Window
         ensures { window_of result ≡ new_far }
     {
-        let first = RlcCount::first(Rlc);
+        let first = RlcCount::first();
         Window {
             rx_next: first,
             rx_next_highest: first,
             rx_highest_status: first,
             rx_next_status_trigger: first,
-            slots: [Slot::new(); WINDOW],
+            slots: [Slot::new(); WINDOW_SIZE],
         }
     }
 
@@ -79,10 +65,7 @@ impl Window {
     pub(crate) fn count(&self, sn: Sn) -> RlcCount
         ensures { count_of result ≡ count_from sn_modulus (count_of self.now.rx_next) (sn_of sn) }
     {
-        match sn.rlc_count(self.rx_next) {
-            Some(count) => count,
-            None => unreachable(),
-        }
+        sn.rlc_count(self.rx_next).unwrap()
     }
 
     /// The slot of a count that was seen.
@@ -91,7 +74,7 @@ impl Window {
         requires seen { x < count_of self.now.rx_next_highest }
         ensures { partial_of result.now ≡ sdus_of self.now x }
     {
-        &self.slots[x as usize % WINDOW]
+        &self.slots[x as usize % WINDOW_SIZE]
     }
 
     /// Whether the data lies outside the window, or has no byte that is new.
@@ -100,10 +83,10 @@ impl Window {
         ensures { result ≡ discards (window_of self.now) (count_of x) (data_pdu_of pdu.now) }
     {
         let count = x.value();
-        if count - self.rx_next.value() >= WINDOW as u32 {
+        if count - self.rx_next.value() >= WINDOW_SIZE as u32 {
             return true;
         }
-        if count >= self.rx_next_highest.value() {
+        if x >= self.rx_next_highest {
             return false;
         }
         let end = pdu.end();
@@ -116,8 +99,7 @@ impl Window {
         requires { count_of self.now.rx_next ≤ count_of x }
         ensures { result ≡ clash (sdus_of self.now (count_of x)) (data_pdu_of pdu.now) }
     {
-        let count = x.value();
-        count < self.rx_next_highest.value() && self.slot(count).clashes(pdu)
+        x < self.rx_next_highest && self.slot(x.value()).clashes(pdu)
     }
 
     /// The count x, which lies in the window, is seen.
@@ -129,8 +111,8 @@ impl Window {
         ensures trigger { count_of self.new.rx_next_status_trigger ≡ count_of self.old.rx_next_status_trigger }
         ensures slots { self.new.slots ≡ self.old.slots }
     {
-        if self.rx_next_highest.value() <= x.value() {
-            self.rx_next_highest = later(x, 1);
+        if self.rx_next_highest <= x {
+            self.rx_next_highest = x.saturating_plus(1);
         }
     }
 
@@ -151,7 +133,7 @@ impl Window {
     pub(crate) fn reception(&self, x: RlcCount) -> Reception
         ensures { reception_in self.now result ≡ reception (stored self.now (count_of x)) }
     {
-        let place = x.value() as usize % WINDOW;
+        let place = x.value() as usize % WINDOW_SIZE;
         match self.slots[place].complete_length() {
             Some(length) => Reception::HandedUp(Completed { place, length }),
             None => Reception::Kept,
@@ -175,7 +157,7 @@ impl Window {
     {
         let start = from.value();
         let found = incomplete_from(&self.slots, start, self.rx_next_highest.value());
-        later(from, found - start)
+        from.saturating_plus(found - start)
     }
 
     /// RX_Next and RX_Highest_Status move past the count x, if that is complete.

@@ -10,7 +10,7 @@ use Rattle.rlc_rx.specs.Spending.{Listed}
 use Rattle.rlc_rx.specs.Views.{far_of}
 use Rattle.std.proofs.lemmas.Result.{err_from_is_err_and}
 use Rattle.wire.specs.Drafted.{draft_of}
-use Rattle.wire.specs.Views.{count_of}
+use Rattle.wire.specs.Counts.{count_of}
 use Rattle.wire.specs.declared.counts.Count.{Count}
 use Rattle.wire.specs.declared.counts.Rlc.{Rlc}
 
@@ -42,7 +42,7 @@ returns-then-length-room c =
     let inv = c.loop-x.invariant in
     let more : x < f.rx_highest_status = omega (arith, c.value-x-end.ensures, c.loop-x-test.true) in
     let lacks : far.complete (f.sdu x) ≡ false = sym (ap far.complete c.slot-slot.ensures) ∙ sym c.is_complete.ensures ∙ c.if-is_complete.false in
-    let at : count_of c.later-count.result ≡ x = omega (arith, c.later-count.ensures, c.value-start.ensures, c.loop-x.auto.x) in
+    let at : count_of c.saturating_plus-count.result ≡ x = omega (arith, c.saturating_plus-count.ensures, c.value-start.ensures, c.loop-x.auto.x) in
     let own-is : entries_left c.new.result ≡ far.sdu_entries x (f.sdu x) =
     c.new.ensures ∙ ap (λ y. far.sdu_entries y (partial_of c.slot-slot.result.now)) at ∙ ap (far.sdu_entries x) c.slot-slot.ensures in
     let long : room < far.entries_length (far.sdu_entries x (f.sdu x)) = omega (arith, c.if-length-room.true, c.bytes-length.ensures, ap far.entries_length own-is) in
@@ -63,7 +63,7 @@ returns-in_err-add_to c =
     let own = far.sdu_entries x (f.sdu x) in
     let more : x < f.rx_highest_status = omega (arith, c.value-x-end.ensures, c.loop-x-test.true) in
     let lacks : far.complete (f.sdu x) ≡ false = sym (ap far.complete c.slot-slot.ensures) ∙ sym c.is_complete.ensures ∙ c.if-is_complete.false in
-    let at : count_of c.later-count.result ≡ x = omega (arith, c.later-count.ensures, c.value-start.ensures, c.loop-x.auto.x) in
+    let at : count_of c.saturating_plus-count.result ≡ x = omega (arith, c.saturating_plus-count.ensures, c.value-start.ensures, c.loop-x.auto.x) in
     let own-is : entries_left c.new.result ≡ far.sdu_entries x (f.sdu x) =
     c.new.ensures ∙ ap (λ y. far.sdu_entries y (partial_of c.slot-slot.result.now)) at ∙ ap (far.sdu_entries x) c.slot-slot.ensures in
     let size : c.bytes-length.result ≡ far.entries_length own = c.bytes-length.ensures ∙ ap far.entries_length own-is in
@@ -88,7 +88,7 @@ loop-x-preserved c =
     let own = far.sdu_entries x (f.sdu x) in
     let more : x < f.rx_highest_status = omega (arith, c.value-x-end.ensures, c.loop-x-test.true) in
     let lacks : far.complete (f.sdu x) ≡ false = sym (ap far.complete c.slot-slot.ensures) ∙ sym c.is_complete.ensures ∙ c.if-is_complete.false in
-    let at : count_of c.later-count.result ≡ x = omega (arith, c.later-count.ensures, c.value-start.ensures, c.loop-x.auto.x) in
+    let at : count_of c.saturating_plus-count.result ≡ x = omega (arith, c.saturating_plus-count.ensures, c.value-start.ensures, c.loop-x.auto.x) in
     let own-is : entries_left c.new.result ≡ far.sdu_entries x (f.sdu x) =
     c.new.ensures ∙ ap (λ y. far.sdu_entries y (partial_of c.slot-slot.result.now)) at ∙ ap (far.sdu_entries x) c.slot-slot.ensures in
     let size : c.bytes-length.result ≡ far.entries_length own = c.bytes-length.ensures ∙ ap far.entries_length own-is in

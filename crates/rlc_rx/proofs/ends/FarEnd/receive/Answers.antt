@@ -6,10 +6,10 @@ use Rattle.rlc_rx.proofs.Arrives.{receives_takes}
 use Rattle.rlc_rx.proofs.ends.FarEnd.receive.Goals as goal
 use Rattle.rlc_rx.specs.DataPdus.{data_pdu_of}
 use Rattle.rlc_rx.specs.Receptions.{reception_in, outcome}
-use Rattle.rlc_rx.specs.Views.{far_of}
+use Rattle.rlc_rx.specs.Views.{far_of, State, state_of}
 use Rattle.std.proofs.lemmas.Bool.{lt-leb, or_from}
 use Rattle.timers.specs.Views.{settings_of}
-use Rattle.wire.specs.Views.{count_of}
+use Rattle.wire.specs.Counts.{count_of}
 
 pub returns : goal.returns
 returns c =
@@ -22,9 +22,6 @@ returns c =
     or_from _ _ (sym c.clashes.ensures ∙ c.if-clashes.false) (lt-leb packet_limit x (omega (arith, c.value.ensures, c.if-value-ge-PACKET_LIMIT.false))) in
     let handed : reception_in c.take.new.self.window c.reception.result ≡ far.reception (far.received a (f.sdu x)) =
     c.reception.ensures ∙ ap far.reception c.take.ensures.held in
-    let both : ◌≡◌ {A = Result far.Reception Fault × far.Far} (Ok (reception_in c.take.new.self.window c.reception.result), far_of c.take.new.self)
-    (Ok (far.reception (far.received a (f.sdu x))), far.taken s x a f) = λ k. (Ok (handed k), c.take.ensures.state k) in
-    record {
-      answer = both ∙ ap (outcome f) (sym (receives_takes s x a f new fits)) ∙ ap (λ z. outcome f (far.receives s z a f)) c.count-x.ensures;
-      settings = c.take.ensures.settings;
-    }
+    let both : ◌≡◌ {A = Result far.Reception Fault × State} (Ok (reception_in c.take.new.self.window c.reception.result), state_of c.take.new.self)
+    (Ok (far.reception (far.received a (f.sdu x))), (s, far.taken s x a f)) = λ k. (Ok (handed k), c.take.ensures.state k) in
+    both ∙ ap (outcome (s, f)) (sym (receives_takes s x a f new fits)) ∙ ap (λ z. outcome (s, f) (far.receives s z a f)) c.count-x.ensures

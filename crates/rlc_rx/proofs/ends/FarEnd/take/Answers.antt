@@ -10,7 +10,7 @@ use Rattle.rlc_rx.specs.Reports.{reporting_of}
 use Rattle.rlc_rx.specs.Slots.{partials}
 use Rattle.rlc_rx.specs.Windows.{far_with}
 use Rattle.timers.specs.Views.{timer_of, settings_of}
-use Rattle.wire.specs.Views.{count_of}
+use Rattle.wire.specs.Counts.{count_of}
 
 pub advance-answered-requires : goal.advance-answered-requires
 advance-answered-requires c =
@@ -33,10 +33,11 @@ returns-clause-state c =
     let p = timer_of e.t_status_prohibit in
     let w = c.advance-answered.new.self in
     c.await_from.ensures.state
-    ∙ ap (λ u. awaited s (count_of w.rx_next) (far_with w u (reporting_of c.trigger_if.new.self) p)) c.stop_if.ensures
+    ∙ ap (λ f. (s, f))
+    (ap (λ u. awaited s (count_of w.rx_next) (far_with w u (reporting_of c.trigger_if.new.self) p)) c.stop_if.ensures
     ∙ ap (λ r. awaited s (count_of w.rx_next) (far_with w (stopped_if c.is_settled-settled.result t) r p)) c.trigger_if.ensures
     ∙ taken_is s e.window c.keep.new.self t (reporting_of e.reporting) p w (count_of c.args.x) (data_pdu_of c.args.pdu.now) c.keep.ensures c.advance-answered.result c.is_settled-settled.result
-    c.advance-answered.ensures.state c.is_settled-settled.ensures
+    c.advance-answered.ensures.state c.is_settled-settled.ensures)
 
 pub returns-clause-held : goal.returns-clause-held
 returns-clause-held c =

@@ -7,7 +7,7 @@ use Rattle.rlc_rx.proofs.ends.FarEnd.write_report.Goals as goal
 use Rattle.rlc_rx.specs.Views.{far_of}
 use Rattle.rlc_rx.specs.declared.ends.FarEnd.{FarEnd}
 use Rattle.wire.specs.Drafted.{draft_of}
-use Rattle.wire.specs.Views.{count_of, sn_of}
+use Rattle.wire.specs.Counts.{count_of, sn_of}
 use Rattle.protocol.specs.Bytes.{Bytes, put}
 use Rattle.protocol.specs.Pdus.{encode}
 

@@ -8,7 +8,8 @@ use Rattle.rlc_rx.specs.Slots.{partial_of}
 use Rattle.rlc_rx.specs.declared.entries.SduEntries.{SduEntries}
 use Rattle.std.specs.Bool.{then_some}
 use Rattle.std.specs.Option.{MatchOption, unwrap_or}
-use Rattle.wire.specs.Views.{sn_of, count_of, entry_of}
+use Rattle.wire.specs.Counts.{sn_of, count_of}
+use Rattle.wire.specs.Views.{entry_of}
 
 -- where the next gap is sought
 inside : (s : SduEntries) (i : ℕ) → s.from ≡ Some i → i ≤ limit (partial_of s.slot.now)

@@ -5,7 +5,7 @@ use Rattle.rlc_rx.proofs.WindowSteps.{polls_from, polls_to, waits_moved, advance
 use Rattle.rlc_rx.proofs.windows.Window.advance.Goals as goal
 use Rattle.rlc_rx.specs.Rings.{Cleared}
 use Rattle.rlc_rx.specs.Slots.{partials, polls}
-use Rattle.wire.specs.Views.{count_of}
+use Rattle.wire.specs.Counts.{count_of}
 
 pub answer_polls-requires : goal.answer_polls-requires
 answer_polls-requires c =

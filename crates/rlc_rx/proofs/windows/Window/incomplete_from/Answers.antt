@@ -6,7 +6,7 @@ use Rattle.protocol.proofs.Seeks.{seek_from}
 use Rattle.rlc_rx.proofs.Moves.{open_is}
 use Rattle.rlc_rx.proofs.windows.Window.incomplete_from.Goals as goal
 use Rattle.rlc_rx.specs.Slots.{partials}
-use Rattle.wire.specs.Views.{count_of}
+use Rattle.wire.specs.Counts.{count_of}
 
 pub overflow_sub-found : goal.overflow_sub-found
 overflow_sub-found c =
@@ -21,5 +21,5 @@ returns c =
     let found = c.incomplete_from-found.ensures ∙ ap (λ z. seek (λ y. not (complete (in_ring ring y nothing_held))) (z - c.value-start.result) c.value-start.result) c.value.ensures
     ∙ ap (λ z. seek (λ y. not (complete (in_ring ring y nothing_held))) (high - z) z) c.value-start.ensures in
     let low : x ≤ c.incomplete_from-found.result = omega (arith, found, seek_from (λ y. not (complete (in_ring ring y nothing_held))) (high - x) x) in
-    let reached : count_of c.later.result ≡ c.incomplete_from-found.result = omega (arith, c.later.ensures, c.value-start.ensures, low) in
+    let reached : count_of c.saturating_plus.result ≡ c.incomplete_from-found.result = omega (arith, c.saturating_plus.ensures, c.value-start.ensures, low) in
     reached ∙ found ∙ open_is (count_of w.rx_next) high x ring c.requires.from

@@ -4,7 +4,7 @@ use Rattle.rlc_rx.proofs.WindowSteps.{had, takes_kept}
 use Rattle.rlc_rx.proofs.windows.Window.keep.Goals as goal
 use Rattle.rlc_rx.specs.DataPdus.{data_pdu_of}
 use Rattle.rlc_rx.specs.Slots.{partials, polls}
-use Rattle.wire.specs.Views.{count_of}
+use Rattle.wire.specs.Counts.{count_of}
 
 pub receive-requires : goal.receive-requires
 receive-requires c =

@@ -4,7 +4,7 @@ use Rattle.rlc_rx.proofs.Moves.{past_moves}
 use Rattle.rlc_rx.proofs.WindowSteps.{moved_keeps}
 use Rattle.rlc_rx.proofs.windows.Window.move_past.Goals as goal
 use Rattle.rlc_rx.specs.Windows.{sdus_of}
-use Rattle.wire.specs.Views.{count_of}
+use Rattle.wire.specs.Counts.{count_of}
 
 pub invariant_of-self : goal.invariant_of-self
 invariant_of-self c =

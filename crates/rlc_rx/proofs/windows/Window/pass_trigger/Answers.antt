@@ -3,7 +3,7 @@ use Rattle.rlc_rx.proofs.WindowSteps.{reached_low, reached_high, waits_reached, 
 use Rattle.rlc_rx.proofs.windows.Window.pass_trigger.Goals as goal
 use Rattle.rlc_rx.specs.Rings.{Cleared}
 use Rattle.rlc_rx.specs.Slots.{partials, polls}
-use Rattle.wire.specs.Views.{count_of}
+use Rattle.wire.specs.Counts.{count_of}
 
 pub answer_polls-requires : goal.answer_polls-requires
 answer_polls-requires c =
