@@ -4,7 +4,7 @@ use Rattle.protocol.specs.Pdus.{Amd}
 use Rattle.protocol.specs.Receiving as far
 use Rattle.protocol.specs.Settings.{Settings}
 use Rattle.protocol.specs.Timers.{Timer, runs, running, stopped, stopped_if}
-use Rattle.rlc_rx.specs.Windows.{far_with, window_of, Takes, trigger_passed}
+use Rattle.rlc_rx.specs.Windows.{far_with, window_of, Takes, Answers, trigger_passed}
 use Rattle.rlc_rx.specs.declared.windows.Window.{Window}
 use Rattle.rlc_rx.proofs.WindowSteps.{next, high, status, trigger}
 
@@ -27,7 +27,7 @@ module _ (s : Settings) (w w' : Window) (t : Timer) (r : far.Reporting) (p : Tim
   before = far_with w t r p
 
   module _ (w'' : Window) (x : ℕ) (a : Amd) (keeps : Takes (far.kept x a) w w') (answered stops : Bool)
-      (advances : (t' : Timer) (r' : far.Reporting) (p' : Timer) → far_with w'' t' (far.triggered_if answered r') p' ≡ far.answering (next w') (far.advanced x (far_with w' t' r' p')))
+      (advances : Answers answered (λ f. far.answering f.rx_next (far.advanced x f)) w' w'')
       (stops_is : stops ≡ settled (window_of w'')) where
     abbrev g : far.Far
     g = far.advanced x (far.kept x a before)

@@ -1,5 +1,5 @@
 -- The steps of the far end on its window.
-use Rattle.std.proofs.Common.{◌≡◌, ℕ, ◌+◌, ◌-◌, ◌%◌, ◌<◌, ◌≤◌, max, Bool, false, cond, not, ◌&&◌, ◌||◌, ltb, ◌≢◌, List, set, sym, ap, ◌∙◌, subst, arith}
+use Rattle.std.proofs.Common.{◌≡◌, ℕ, ◌+◌, ◌-◌, ◌%◌, ◌≤◌, max, Bool, false, cond, not, ◌&&◌, ◌||◌, ltb, ◌≢◌, List, set, sym, ap, ◌∙◌, subst, arith}
 use Rattle.protocol.specs.Pdus.{Amd}
 use Rattle.protocol.specs.Receiving as far
 use Rattle.protocol.specs.Rings.{in_ring}
@@ -8,7 +8,7 @@ use Rattle.protocol.specs.Timers.{Timer, stopped}
 use Rattle.protocol.proofs.Seeks.{update_same, update_other}
 use Rattle.rlc_rx.specs.Rings.{sdus_in, polls_in, far_in, Cleared}
 use Rattle.rlc_rx.specs.Slots.{partial_of, partials, polls}
-use Rattle.rlc_rx.specs.Windows.{sdus_of, far_with, window_of, Takes, stored, Waits, IsInWindow, MovesPast, trigger_passed}
+use Rattle.rlc_rx.specs.Windows.{sdus_of, far_with, window_of, Takes, stored, Waits, IsInWindow, IsSeen, MovesPast, trigger_passed}
 use Rattle.rlc_rx.specs.declared.windows.Window.{Window}
 use Rattle.rlc_rx.proofs.Moves.{open_from, open_low, open_high, open_open, past, past_from, past_to, past_ordered, past_open, sdus_raised, sdus_same, polls_found}
 use Rattle.rlc_rx.proofs.Places.{window_seen, window_unseen, window_now, seen_was, polls_answered}
@@ -96,11 +96,8 @@ module _ (w w' : Window) (x : ℕ) (a : Amd) (i : IsInWindow w x) (k : Takes (fa
   kept_is : window_of w' ≡ far.kept x a was
   kept_is = k stopped far.quiet stopped
 
-  pub next_kept : next w' ≡ next w
-  next_kept = ap (λ f. f.rx_next) kept_is
-
-  pub seen_kept : x < high w'
-  seen_kept = omega (arith, ap (λ f. f.rx_next_highest) kept_is)
+  pub seen_kept : IsSeen w' x
+  seen_kept = record { from = omega (arith, ap (λ f. f.rx_next) kept_is, i.from); to = omega (arith, ap (λ f. f.rx_next_highest) kept_is) }
 
   pub waits_kept : Waits w → status w' ≢ x → Waits w'
   waits_kept waits d =
@@ -110,12 +107,12 @@ module _ (w w' : Window) (x : ℕ) (a : Amd) (i : IsInWindow w x) (k : Takes (fa
   -- the slots have the SDU as it was received
   pub stored_kept : stored w' x ≡ far.received a (sdus_of w x)
   stored_kept =
-      sym (window_seen far.complete_sdu far.nothing_held (next w') (high w') (partials w'.slots) x (omega (arith, next_kept, i.from)) seen_kept) ∙ ap (λ f. f.sdu x) kept_is
+      sym (window_seen far.complete_sdu far.nothing_held (next w') (high w') (partials w'.slots) x seen_kept.from seen_kept.to) ∙ ap (λ f. f.sdu x) kept_is
       ∙ update_same (sdus_of w) x (far.received a (sdus_of w x))
 
 -- the variables move past a count -----------------------------------------------------------------------------------------
 
-module _ (w : Window) (x : ℕ) (from : next w ≤ x) (seen : x < high w) (waits : status w ≢ x → Waits w) where
+module _ (w : Window) (x : ℕ) (seen : IsSeen w x) (waits : status w ≢ x → Waits w) where
   abbrev next' : ℕ
   next' = past (sdus_of w) (high w) x (next w)
 
@@ -123,13 +120,13 @@ module _ (w : Window) (x : ℕ) (from : next w ≤ x) (seen : x < high w) (waits
   status' = past (sdus_of w) (high w) x (status w)
 
   to : x ≤ high w
-  to = omega (arith, seen)
+  to = omega (arith, seen.to)
 
   raised : next w ≤ next'
   raised = past_from (sdus_of w) (high w) x to (next w)
 
   ordered : next' ≤ status'
-  ordered = past_ordered (sdus_of w) (high w) x to (next w) (status w) from w.status_from waits
+  ordered = past_ordered (sdus_of w) (high w) x to (next w) (status w) seen.from w.status_from waits
 
   top : status' ≤ high w
   top = past_to (sdus_of w) (high w) x to (status w) w.status_to
@@ -160,7 +157,7 @@ module _ (w : Window) (x : ℕ) (from : next w ≤ x) (seen : x < high w) (waits
       same = sdus_are ∙ ap partials m.slots
 
       unseen : far.complete (sdus_of w (high w)) ≡ false
-      unseen = ap far.complete (window_unseen far.complete_sdu far.nothing_held (next w) (high w) (partials w.slots) (high w) (omega (arith, from, seen)) (omega arith))
+      unseen = ap far.complete (window_unseen far.complete_sdu far.nothing_held (next w) (high w) (partials w.slots) (high w) (omega (arith, seen.from, seen.to)) (omega arith))
 
       pub waits_moved : far.complete (sdus_in (next w') (high w') sdus (status w')) ≡ false
       waits_moved =

@@ -1,6 +1,6 @@
 -- The receiving window: what stands under each count, and the far end that has this window.
-use Rattle.std.specs.Prelude.{◌≡◌, ℕ, ◌+◌, ◌<◌, ◌≤◌, false}
-use Rattle.protocol.specs.Receiving.{Partial, Reporting, quiet, Far, nothing_held, complete, incomplete_from, moved_past, with_reporting, with_highest_status, answering}
+use Rattle.std.specs.Prelude.{◌≡◌, ℕ, ◌+◌, ◌<◌, ◌≤◌, Bool, false}
+use Rattle.protocol.specs.Receiving.{Partial, Reporting, quiet, Far, nothing_held, complete, incomplete_from, moved_past, with_reporting, with_highest_status, answering, triggered_if}
 use Rattle.protocol.specs.Rings.{in_ring}
 use Rattle.protocol.specs.Timers.{Timer, stopped}
 use Rattle.rlc_rx.specs.Rings.{sdus_in, far_in}
@@ -25,6 +25,11 @@ window_of w = far_with w stopped quiet stopped
 abbrev pub Takes : (Far → Far) → Window → Window → Type 0
 Takes step old new = (t_reassembly : Timer) (reporting : Reporting) (t_status_prohibit : Timer) → far_with new t_reassembly reporting t_status_prohibit ≡ step (far_with old t_reassembly reporting t_status_prohibit)
 
+-- ... and where it has answered a poll, a status report is asked for
+abbrev pub Answers : Bool → (Far → Far) → Window → Window → Type 0
+Answers answered step old new =
+    (t_reassembly : Timer) (reporting : Reporting) (t_status_prohibit : Timer) → far_with new t_reassembly (triggered_if answered reporting) t_status_prohibit ≡ step (far_with old t_reassembly reporting t_status_prohibit)
+
 -- what the slots have under the count x, also once the window has passed it
 abbrev pub stored : Window → ℕ → Partial
 stored w x = in_ring (partials w.slots) x nothing_held
@@ -38,6 +43,16 @@ pub record IsInWindow (w : Window) (x : ℕ) : Type 0 where
   pub from : count_of w.rx_next ≤ x
   pub to : x < count_of w.rx_next + 16
   pub few : x < 1000000
+
+-- The count x lies in the window, and no higher than the highest that was seen.
+pub record IsSeen (w : Window) (x : ℕ) : Type 0 where
+  pub from : count_of w.rx_next ≤ x
+  pub to : x < count_of w.rx_next_highest
+
+-- ... or is the next one.
+pub record IsInRange (w : Window) (x : ℕ) : Type 0 where
+  pub from : count_of w.rx_next ≤ x
+  pub to : x ≤ count_of w.rx_next_highest
 
 -- RX_Next and RX_Highest_Status have moved past the count x, if that is complete.
 pub record MovesPast (x : ℕ) (old new : Window) : Type 0 where

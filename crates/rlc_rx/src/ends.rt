@@ -7,7 +7,7 @@ ghost use Rattle.protocol.specs.Pdus.{encode};
 ghost use Rattle.protocol.specs.Receiving.{new_far, clashes, received, taken, awaited, given_up, tick_reassembly, tick_prohibit, tick_far, report_from, report, report_pdu};
 ghost use Rattle.protocol.specs.Timers.{runs};
 ghost use Rattle.rlc_rx.specs.DataPdus.{data_pdu_of};
-ghost use Rattle.rlc_rx.specs.Windows.{stored, Waits, IsInWindow};
+ghost use Rattle.rlc_rx.specs.Windows.{stored, Waits, IsInWindow, IsInRange};
 ghost use Rattle.timers.specs.Views.{timer_of, settings_of};
 ghost use Rattle.wire.specs.Drafted.{draft_of};
 ghost use Rattle.wire.specs.Counts.{sn_of, count_of};
@@ -53,8 +53,7 @@ impl FarEnd {
 
     /// Starts t-Reassembly if it does not run and something from `low` on is missing.
     fn await_from(&mut self, low: RlcCount)
-        requires from { count_of self.old.window.rx_next ≤ count_of low }
-        requires to { count_of low ≤ count_of self.old.window.rx_next_highest }
+        requires { IsInRange self.old.window (count_of low) }
         ensures state { state_of self.new ≡ after (λ s. awaited s (count_of low)) (state_of self.old) }
         ensures slots { self.new.window.slots ≡ self.old.window.slots }
     {

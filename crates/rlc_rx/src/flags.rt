@@ -35,6 +35,7 @@ fn put_new(bytes: &mut [u8], held: &mut [bool], offset: usize, data: &[u8]) -> u
     ensures { Merged offset (length «data».now) «data».now bytes.old bytes.new held.old held.new result }
 {
     let mut new = 0;
+    // No `zip` of two `iter_mut`: once such a loan is over, the check knows a slice's length and not its elements.
     for (i, byte) in data.iter().enumerate() {
         if !held[offset + i] {
             bytes[offset + i] = *byte;

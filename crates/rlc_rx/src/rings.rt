@@ -20,8 +20,7 @@ pub(crate) fn clear(slots: &mut [Slot; WINDOW_SIZE], from: u32, to: u32)
     ensures flags { Cleared false from to (polls slots.old) (polls slots.new) }
 {
     for x in from..to {
-        let slot = &mut slots[x as usize % WINDOW_SIZE];
-        slot.reset();
+        slots[x as usize % WINDOW_SIZE].reset();
     }
 }
 
@@ -31,8 +30,7 @@ pub(crate) fn receive(slots: &mut [Slot; WINDOW_SIZE], x: u32, pdu: &DataPdu)
     ensures sdus { partials slots.new ≡ slice_set (partials slots.old) (x % 16) (received (data_pdu_of pdu.now) (in_ring (partials slots.old) x nothing_held)) }
     ensures flags { polls slots.new ≡ slice_set (polls slots.old) (x % 16) (in_ring (polls slots.old) x false || (data_pdu_of pdu.now).poll) }
 {
-    let slot = &mut slots[x as usize % WINDOW_SIZE];
-    slot.receive(pdu);
+    slots[x as usize % WINDOW_SIZE].receive(pdu);
 }
 
 /// The first count from `from` to before `to` that is not complete, or else `to`.
@@ -59,9 +57,7 @@ pub(crate) fn answer_polls(slots: &mut [Slot; WINDOW_SIZE], from: u32, to: u32) 
 {
     let mut answered = false;
     for x in from..to {
-        let slot = &mut slots[x as usize % WINDOW_SIZE];
-        let asked = slot.answer_poll();
-        answered = answered || asked;
+        answered |= slots[x as usize % WINDOW_SIZE].answer_poll();
     }
     answered
 }

@@ -19,6 +19,7 @@ const TO_THE_END: u16 = 0xFFFF;
 pub(crate) struct Slot {
     pub(crate) bytes: [u8; MAX_SDU],
     /// Which of the bytes are held.
+    // No `[Option<u8>; MAX_SDU]`: a complete SDU is handed up as a slice of `bytes`, without a copy.
     held: [bool; MAX_SDU],
     /// How many are.
     count: usize,

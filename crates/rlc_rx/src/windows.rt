@@ -2,7 +2,7 @@
 
 ghost use Rattle.std.specs.Prelude.{◌≡◌, ◌+◌, ◌<◌, ◌≤◌, ◌≢◌, length, max, if◌then◌else◌, false, not, ◌&&◌, ◌||◌, ◌==◌, nat_eq, nat_le, nat_lt};
 ghost use Rattle.protocol.specs.Numbers.{sn_modulus, count_from};
-ghost use Rattle.protocol.specs.Receiving.{Reporting, new_far, complete, has_hole, discards, clashes as clash, kept, advanced, incomplete_from, reception, triggered_if, answering};
+ghost use Rattle.protocol.specs.Receiving.{Reporting, new_far, complete, has_hole, discards, clashes as clash, kept, advanced, incomplete_from, reception, answering};
 ghost use Rattle.protocol.specs.Timers.{Timer, stopped};
 ghost use Rattle.rlc_rx.specs.DataPdus.{data_pdu_of};
 ghost use Rattle.rlc_rx.specs.Slots.{partial_of, partials};
@@ -45,7 +45,7 @@ fn moved(variable: RlcCount, x: RlcCount, to: RlcCount) -> RlcCount
 
 impl Window {
     ghost use Rattle.rlc_rx.specs.Receptions.{sdu_in, reception_in};
-    ghost use Rattle.rlc_rx.specs.Windows.{sdus_of, far_with, window_of, Takes, stored, Waits, IsInWindow, MovesPast, trigger_passed};
+    ghost use Rattle.rlc_rx.specs.Windows.{sdus_of, far_with, window_of, Takes, Answers, stored, Waits, IsInWindow, IsSeen, IsInRange, MovesPast, trigger_passed};
 
     /// The window of a far end that has received nothing.
     pub(crate) fn new() -> Window
@@ -70,8 +70,7 @@ impl Window {
 
     /// The slot of a count that was seen.
     pub(crate) fn slot(&self, x: u32) -> &Slot
-        requires from { count_of self.now.rx_next ≤ x }
-        requires seen { x < count_of self.now.rx_next_highest }
+        requires { IsSeen self.now x }
         ensures { partial_of result.now ≡ sdus_of self.now x }
     {
         &self.slots[x as usize % WINDOW_SIZE]
@@ -151,8 +150,7 @@ impl Window {
 
     /// The first count from `from` on that is not complete.
     fn incomplete_from(&self, from: RlcCount) -> RlcCount
-        requires from { count_of self.now.rx_next ≤ count_of from }
-        requires to { count_of from ≤ count_of self.now.rx_next_highest }
+        requires { IsInRange self.now (count_of from) }
         ensures { count_of result ≡ incomplete_from (window_of self.now) (count_of from) }
     {
         let start = from.value();
@@ -162,8 +160,7 @@ impl Window {
 
     /// RX_Next and RX_Highest_Status move past the count x, if that is complete.
     fn move_past(&mut self, x: RlcCount)
-        requires from { count_of self.old.rx_next ≤ count_of x }
-        requires seen { count_of x < count_of self.old.rx_next_highest }
+        requires seen { IsSeen self.old (count_of x) }
         requires waits { (count_of self.old.rx_highest_status ≢ count_of x) → Waits self.old }
         ensures { MovesPast (count_of x) self.old self.new }
     {
@@ -178,10 +175,9 @@ impl Window {
     /// The variables move past the count x, if that is complete; answers the polls that they pass, and whether there
     /// was one.
     pub(crate) fn advance(&mut self, x: RlcCount) -> bool
-        requires from { count_of self.old.rx_next ≤ count_of x }
-        requires seen { count_of x < count_of self.old.rx_next_highest }
+        requires seen { IsSeen self.old (count_of x) }
         requires waits { (count_of self.old.rx_highest_status ≢ count_of x) → Waits self.old }
-        ensures state { (t_reassembly : Timer) (reporting : Reporting) (t_status_prohibit : Timer) → far_with self.new t_reassembly (triggered_if result reporting) t_status_prohibit ≡ answering (count_of self.old.rx_next) (advanced (count_of x) (far_with self.old t_reassembly reporting t_status_prohibit)) }
+        ensures state { Answers result (λ f. answering f.rx_next (advanced (count_of x) f)) self.old self.new }
         ensures sdus { partials self.new.slots ≡ partials self.old.slots }
         ensures waits { Waits self.new }
     {
@@ -201,8 +197,7 @@ impl Window {
 
     /// Whether something from `low` on is missing.
     pub(crate) fn is_awaited(&self, low: RlcCount) -> bool
-        requires from { count_of self.now.rx_next ≤ count_of low }
-        requires to { count_of low ≤ count_of self.now.rx_next_highest }
+        requires { IsInRange self.now (count_of low) }
         ensures { result ≡ (nat_lt (count_of low + 1) (count_of self.now.rx_next_highest) || (count_of self.now.rx_next_highest == count_of low + 1 && has_hole (sdus_of self.now (count_of low)))) }
     {
         let high = self.rx_next_highest.value();

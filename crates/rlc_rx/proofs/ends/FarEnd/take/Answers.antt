@@ -1,9 +1,9 @@
-use Rattle.std.proofs.Common.{ap, ◌∙◌, arith}
+use Rattle.std.proofs.Common.{ap, ◌∙◌}
 use Rattle.protocol.specs.Receiving.{nothing_held, awaited}
 use Rattle.protocol.specs.Rings.{in_ring}
 use Rattle.protocol.specs.Timers.{stopped_if}
 use Rattle.rlc_rx.proofs.EndSteps.{taken_is}
-use Rattle.rlc_rx.proofs.WindowSteps.{next_kept, seen_kept, waits_kept, stored_kept}
+use Rattle.rlc_rx.proofs.WindowSteps.{seen_kept, waits_kept, stored_kept}
 use Rattle.rlc_rx.proofs.ends.FarEnd.take.Goals as goal
 use Rattle.rlc_rx.specs.DataPdus.{data_pdu_of}
 use Rattle.rlc_rx.specs.Reports.{reporting_of}
@@ -19,11 +19,7 @@ advance-answered-requires c =
     let a = data_pdu_of c.args.pdu.now in
     let w' = c.keep.new.self in
     let i = c.requires.inside in
-    record {
-      from = omega (arith, next_kept w w' x a i c.keep.ensures, i.from);
-      seen = seen_kept w w' x a i c.keep.ensures;
-      waits = waits_kept w w' x a i c.keep.ensures c.args.self.now.waits;
-    }
+    record { seen = seen_kept w w' x a i c.keep.ensures; waits = waits_kept w w' x a i c.keep.ensures c.args.self.now.waits }
 
 pub returns-clause-state : goal.returns-clause-state
 returns-clause-state c =

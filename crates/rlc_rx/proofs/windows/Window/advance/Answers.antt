@@ -13,8 +13,8 @@ answer_polls-requires c =
     let x = count_of c.args.x in
     let r = c.requires in
     record {
-      window = omega (arith, c.value-low.ensures, c.value.ensures, polls_to w x r.from r.seen r.waits c.move_past.new.self c.move_past.ensures);
-      ordered = omega (arith, c.value-low.ensures, c.value.ensures, polls_from w x r.from r.seen r.waits c.move_past.new.self c.move_past.ensures);
+      window = omega (arith, c.value-low.ensures, c.value.ensures, polls_to w x r.seen r.waits c.move_past.new.self c.move_past.ensures);
+      ordered = omega (arith, c.value-low.ensures, c.value.ensures, polls_from w x r.seen r.waits c.move_past.new.self c.move_past.ensures);
     }
 
 pub returns : goal.returns
@@ -29,7 +29,7 @@ returns c =
     let found = subst (λ z. c.answer_polls.result ≡ ltb (seek (λ y. in_ring (polls w'.slots) y false) (z - low) low) z) c.value.ensures a.answer in
     let cleared = subst (λ z. Cleared false low z (polls w'.slots) (polls slots)) c.value.ensures a.flags in
     record {
-      state = advanced_is w x r.from r.seen r.waits w' c.move_past.ensures (partials slots) a.sdus (polls slots) c.answer_polls.result low c.value-low.ensures found cleared;
+      state = advanced_is w x r.seen r.waits w' c.move_past.ensures (partials slots) a.sdus (polls slots) c.answer_polls.result low c.value-low.ensures found cleared;
       sdus = a.sdus ∙ ap partials c.move_past.ensures.slots;
-      waits = waits_moved w x r.from r.seen r.waits w' c.move_past.ensures (partials slots) a.sdus;
+      waits = waits_moved w x r.seen r.waits w' c.move_past.ensures (partials slots) a.sdus;
     }
