@@ -1,7 +1,7 @@
 -- What the far end reads from bytes, and how it takes it.
 use Rattle.std.proofs.Common.{◌≡◌, ℕ, ◌+◌, ◌≤◌, Bool, true, false, cond, ◌||◌, leb, length, Some, None, Ok, Err, Option, Result, sym, refl, ap, ◌∙◌, subst, arith}
 use Rattle.protocol.specs.Bytes.{Bytes}
-use Rattle.protocol.specs.Pdus.{Segment, whole, first, middle, last, Amd, Pdu, amd, status}
+use Rattle.protocol.specs.Pdus.{Segment, whole, first, middle, last, Amd, Pdu, amd}
 use Rattle.protocol.specs.Reading.{decode, amd_of, own_kind, offset_fault, header_length, si_field}
 use Rattle.protocol.specs.Receiving as far
 use Rattle.protocol.specs.Refusals.{at, unless}
@@ -11,7 +11,6 @@ use Rattle.protocol.specs.Settings.{Settings}
 use Rattle.protocol.specs.declared.faults.End.TheVariants.{Far}
 use Rattle.protocol.specs.declared.faults.Fault.{Fault}
 use Rattle.protocol.specs.declared.faults.Refusal.TheVariants.{WrongKind, Malformed}
-use Rattle.rlc_rx.specs.Receptions.{amd_in}
 use Rattle.std.proofs.lemmas.List.{length-drop}
 use Rattle.std.proofs.lemmas.Bool.{cond-false}
 use Rattle.std.proofs.lemmas.Bool.Decides.{nat_tests}
@@ -50,11 +49,6 @@ far_reads bytes a e =
       some = omega (arith, length-drop (header_length (si_field bytes)) bytes, r.1);
       room = within (amd_of bytes).segment (length (amd_of bytes).payload) (no_fault bytes (amd a) e);
     })
-
--- an AMD PDU by its header and data
-pub amd_is : (pdu : Pdu) (a : Amd) → Some a ≡ amd_in pdu → pdu ≡ amd a
-amd_is (amd b) a e = cc
-amd_is (status ack es) a e = absurd (let z : ◌≡◌ {A = ℕ} 0 1 = cc in omega arith)
 
 pub receives_takes : (s : Settings) (x : ℕ) (a : Amd) (f : far.Far) → far.discards f x a ≡ false → (far.clashes (f.sdu x) a || leb packet_limit x) ≡ false
     → far.receives s x a f ≡ Ok (far.reception (far.received a (f.sdu x)), far.taken s x a f)

@@ -4,10 +4,9 @@ pub mod Merging
 pub mod Pieces
 pub mod Places
 pub mod Moves
-pub mod Absorbs
+pub mod WindowSteps
 pub mod Arrives
-pub mod Takes
-pub mod GivesUp
-pub mod Stretches
+pub mod Gaps
 pub mod Listing
 pub mod Writes
+pub mod EndSteps

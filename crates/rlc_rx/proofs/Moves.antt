@@ -4,10 +4,18 @@ use Rattle.protocol.specs.Receiving as far
 use Rattle.protocol.specs.Rings.{in_ring}
 use Rattle.protocol.specs.Searching.{seek}
 use Rattle.protocol.proofs.Seeks.{seek_from, seek_to, seek_found, seek_least}
-use Rattle.rlc_rx.specs.Windows.{sdus_in, polls_in, open_from, past}
+use Rattle.rlc_rx.specs.Rings.{sdus_in, polls_in}
 use Rattle.rlc_rx.proofs.Places.{ring_read, window_seen}
 use Rattle.rlc_rx.proofs.Seeking.{seek_range}
 use Rattle.std.proofs.lemmas.Bool.{both_ways, cases_lt, cases_eq, cases_Bool, cond-true, cond-false, lt-ltb, le-ltb, eqb-true, eqb-false, not-true, not_from_false}
+
+-- the first count from x on that is not complete; `high` is one past the highest count seen
+abbrev pub open_from : (ℕ → far.Partial) → (high x : ℕ) → ℕ
+open_from sdus high x = seek (λ y. not (far.complete (sdus y))) (high - x) x
+
+-- a variable that moves past the count x where that is complete
+abbrev pub past : (ℕ → far.Partial) → (high x variable : ℕ) → ℕ
+past sdus high x variable = cond (far.complete (sdus x) && eqb variable x) (open_from sdus high x) variable
 
 -- the search in the ring is the search in the window
 pub open_is : (next high x : ℕ) (ring : List far.Partial) → next ≤ x

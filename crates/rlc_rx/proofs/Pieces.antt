@@ -6,12 +6,18 @@ use Rattle.protocol.specs.Receiving as far
 use Rattle.rlc_rx.specs.Flags.{tally, is_held, NoneFrom, EndsAt, bounds, in_data, Merged}
 use Rattle.protocol.proofs.Seeks.{seek_before}
 use Rattle.rlc_rx.specs.Receptions.{handed}
-use Rattle.rlc_rx.specs.Slots.{partial}
+use Rattle.rlc_rx.specs.Slots.{partial, partial_of}
+use Rattle.rlc_rx.specs.declared.slots.Slot.{Slot}
+use Rattle.std.specs.Bool.{then_some}
+use Rattle.std.specs.Option.{option_eq}
 use Rattle.rlc_rx.proofs.Merging.{data_outside, data_inside}
 use Rattle.rlc_rx.proofs.Seeking.{seek_none}
-use Rattle.rlc_rx.proofs.Tallies.{tally_below, holds_is, held_beyond, bounds_end}
+use Rattle.rlc_rx.proofs.Tallies.{tally_below, holds_is, held_beyond, bounds_end, complete_is, none_higher}
 use Rattle.std.proofs.lemmas.List.{get_or_past}
-use Rattle.std.proofs.lemmas.Bool.{both_ways, cases_lt, ltb-false, le-leb, and_from, or_left, or_right, or_from, or_parts, not-false, cond-true, eqb-true, and_right, le-ltb, lt-leb}
+use Rattle.std.proofs.lemmas.Bool.{both_ways, cases_lt, cases_eq, eq-eqb, ne_eqb, cond-false, ltb-false, le-leb, and_from, or_left, or_right, or_from, or_parts, not-false, cond-true, eqb-true, and_right, le-ltb, lt-leb}
+
+eqb_sym : (m n : ℕ) → eqb m n ≡ eqb n m
+eqb_sym m n = ⊎_elim (λ e. eq-eqb m n e ∙ sym (eq-eqb n m (sym e))) (λ d. ne_eqb m n d ∙ sym (ne_eqb n m (λ e. d (sym e)))) (cases_eq m n)
 
 pub tally_short : (flags : List Bool) → tally flags ≤ length flags
 tally_short flags = tally_below (length flags) flags (λ i le. get_or_past flags i false le)
@@ -88,7 +94,7 @@ module _ (flags : List Bool) (bytes : Bytes) (end : Option ℕ) where
       ∙ ap (λ bs. get_or bytes i 0 ∷ bs) (bytes_held n (suc i) (λ k lo hi. all k (omega (arith, lo)) (omega (arith, hi))) (omega (arith, room)))
       ∙ sym (ap (take (suc n)) (drop-cons bytes i 0 (omega (arith, room))))
 
-  pub handed_is : (top : ℕ) → length bytes ≡ 502 → bounds end top ≡ true → far.complete (partial flags bytes end) ≡ true
+  handed_is : (top : ℕ) → length bytes ≡ 502 → bounds end top ≡ true → far.complete (partial flags bytes end) ≡ true
       → handed end bytes ≡ far.reception (partial flags bytes end)
   handed_is top room bounded done = by_end end refl ∙ sym (cond-true _ _ _ done)
     where
@@ -101,12 +107,30 @@ module _ (flags : List Bool) (bytes : Bytes) (end : Option ℕ) where
           ap (λ o. handed o bytes) e ∙ ap far.whole_sdu (sym (bytes_held n 0 all (omega (arith, room, (bounds_end end top n bounded e).1))))
           ∙ sym (ap (λ o. far.whole_sdu (far.bytes_to (partial flags bytes end) o)) e)
 
-  pub end_found : (top : ℕ) → bounds end top ≡ true → IfSome end (λ n. n ≤ 502)
-  end_found top bounded = go end refl
+-- a slot, by how many of its bytes are held -------------------------------------------------------------------------------
+
+module _ (s : Slot) where
+  pub count_completes : option_eq eqb s.known_end (Some s.count) ≡ far.complete (partial_of s)
+  count_completes = go s.known_end refl
     where
-      go : (o : Option ℕ) → end ≡ o → IfSome o (λ n. n ≤ 502)
-      go None e = tt
-      go (Some n) e = (bounds_end end top n bounded e).1
+      go : (o : Option ℕ) → s.known_end ≡ o → option_eq eqb o (Some s.count) ≡ far.complete_to (partial_of s) o
+      go None e = refl
+      go (Some end) e =
+          let within = bounds_end s.known_end s.top end s.bounded e in
+          eqb_sym end s.count ∙ ap (λ n. eqb n end) s.counted
+          ∙ complete_is s.held s.bytes s.known_end end (omega (arith, s.room.1, within.1)) (none_higher s.top end s.held within.0 s.beyond)
+
+  -- its length is that count
+  pub count_hands : (done : Bool) → done ≡ far.complete (partial_of s) → (handed (then_some done s.count) s.bytes ≡ far.reception (partial_of s)) × (IfSome (then_some done s.count) (λ n. n ≤ 502))
+  count_hands true e = (ap (λ o. handed o s.bytes) (sym end) ∙ handed_is s.held s.bytes s.known_end s.top s.room.0 s.bounded (sym e), (bounds_end s.known_end s.top s.count s.bounded end).1)
+    where
+      end : s.known_end ≡ Some s.count
+      end = go s.known_end refl
+        where
+          go : (o : Option ℕ) → s.known_end ≡ o → o ≡ Some s.count
+          go None h = absurd (both_ways false refl (ap (λ p. option_eq eqb p (Some s.count)) (sym h) ∙ count_completes ∙ sym e))
+          go (Some n) h = ap {B = Option ℕ} Some (eqb-true n s.count (ap (λ p. option_eq eqb p (Some s.count)) (sym h) ∙ count_completes ∙ sym e))
+  count_hands false e = (sym (cond-false _ _ _ (sym e)), tt)
 
 -- where nothing is held ---------------------------------------------------------------------------------------------------
 

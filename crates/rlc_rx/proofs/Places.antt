@@ -4,7 +4,7 @@ use Rattle.protocol.specs.Rings.{in_ring}
 use Rattle.protocol.specs.Searching.{update}
 use Rattle.protocol.proofs.Rings.{ring_same, ring_other}
 use Rattle.protocol.proofs.Seeks.{update_same, update_other}
-use Rattle.rlc_rx.specs.Windows.{window_in, polls_in, Cleared}
+use Rattle.rlc_rx.specs.Rings.{window_in, polls_in, Cleared}
 use Rattle.std.proofs.lemmas.List.{get_or-map, length-set}
 use Rattle.std.proofs.lemmas.Bool.{cases_lt, cases_eq, cond-true, cond-false, lt-ltb, le-ltb}
 

@@ -1,9 +1,12 @@
 -- A search, step by step.
-use Rattle.std.proofs.Common.{◌≡◌, ℕ, zero, suc, ◌+◌, ◌-◌, ◌<◌, ◌≤◌, Bool, true, false, cond, not, ◌||◌, ltb, List, sym, refl, ap, ◌∙◌, ⊎_elim, arith}
+use Rattle.std.proofs.Common.{◌≡◌, ℕ, zero, suc, ◌+◌, ◌-◌, ◌<◌, ◌≤◌, Bool, true, false, cond, not, ◌||◌, ltb, List, length, get_or, take, drop, Some, None, Option, sym, refl, ap, ◌∙◌, subst, ⊎_elim, arith, get_or-take, get_or-drop, length-drop}
 use mathlib.Core.Bool.{beq}
 use Rattle.protocol.specs.Searching.{seek}
-use Rattle.protocol.proofs.Seeks.{seek_from, seek_found, seek_before, seek_least}
+use Rattle.protocol.proofs.Seeks.{seek_from, seek_to, seek_found, seek_before, seek_least}
 use Rattle.rlc_rx.specs.Flags.{is_held, wears}
+use Rattle.std.specs.Option.{MatchOption, unwrap_or}
+use Rattle.std.specs.List.{AllWithin, HoldsAt}
+use Rattle.std.proofs.lemmas.List.{length-take-le}
 use Rattle.std.proofs.lemmas.Bool.{both_ways, cases_lt, cases_eq, cond-true, cond-false, lt-ltb, le-ltb, or_left, or_right, or_from}
 
 -- tests that agree find the same
@@ -48,6 +51,27 @@ pub seek_none : (test : ℕ → Bool) → ((j : ℕ) → test j ≡ false) → (
 seek_none test none zero i = omega arith
 seek_none test none (suc n) i = cond-false _ _ _ (none i) ∙ seek_none test none n (suc i) ∙ omega arith
 
+-- the first number that passes is the one found
+pub seek_first : (test : ℕ → Bool) (n from i : ℕ) → from ≤ i → i < from + n → test i ≡ true → ((k : ℕ) → from ≤ k → k < i → test k ≡ false) → seek test n from ≡ i
+seek_first test n from i lo hi passes before =
+    ⊎_elim (λ lt. absurd (both_ways _ (before _ (seek_from test n from) lt) (seek_found test n from (omega (arith, lt, hi)))))
+    (λ ge. omega (arith, ge, seek_least test n from i lo passes)) (cases_lt (seek test n from) i)
+
+-- where none passes, the number after these is
+pub seek_past : (test : ℕ → Bool) (n from : ℕ) → ((k : ℕ) → from ≤ k → k < from + n → test k ≡ false) → seek test n from ≡ from + n
+seek_past test n from none =
+    ⊎_elim (λ lt. absurd (both_ways _ (none _ (seek_from test n from) lt) (seek_found test n from lt))) (λ ge. omega (arith, ge, seek_to test n from))
+    (cases_lt (seek test n from) (from + n))
+
+-- what a search in a range answers
+pub seek_range_first : (test : ℕ → Bool) (from to : ℕ) (r : Option ℕ) → from ≤ to
+    → MatchOption r ((k : ℕ) → from ≤ k → k < to → test k ≡ false)
+    (λ i. (from ≤ i) × (i < to) × (test i ≡ true) × ((k : ℕ) → from ≤ k → k < i → test k ≡ false))
+    → unwrap_or r to ≡ seek test (to - from) from
+seek_range_first test from to (Some i) ordered (lo, hi, passes, before) = sym (seek_first test (to - from) from i lo (omega (arith, hi, lo)) passes before)
+seek_range_first test from to None ordered none =
+    omega (arith, ordered, seek_past test (to - from) from (λ k lo hi. none k lo (omega (arith, hi, ordered))))
+
 -- whether one is found, one number further
 pub seek_more : (test : ℕ → Bool) (from x : ℕ) → from ≤ x → ltb (seek test (x + 1 - from) from) (x + 1) ≡ (ltb (seek test (x - from) from) x || test x)
 seek_more test from x le = ⊎_elim found none (cases_lt (seek test (x - from) from) x)
@@ -71,3 +95,32 @@ seek_more test from x le = ⊎_elim found none (cases_lt (seek test (x - from) f
                 ⊎_elim (λ s. both_ways _ (ap test s ∙ e) hit)
                 (λ d. both_ways _ (seek_before test (x - from) from (seek test (x + 1 - from) from) (seek_from test (x + 1 - from) from) (omega (arith, lt, d, ge))) hit)
                 (cases_eq (seek test (x + 1 - from) from) x)
+
+-- flags, searched by their places in a part ----------------------------------------------------------------------------------
+
+module _ (flag : Bool) (flags : List Bool) (from to : ℕ) (ordered : from ≤ to) (room : to ≤ length flags) where
+  abbrev part : List Bool
+  part = take (to - from) (drop from flags)
+
+  part_long : length part ≡ to - from
+  part_long = length-take-le (to - from) (drop from flags) (omega (arith, length-drop from flags, room))
+
+  flag_at : (k j : ℕ) → k < to - from → j ≡ from + k → wears flag flags j ≡ beq (get_or part k false) flag
+  flag_at k j lt e =
+      wears_is flag flags j ∙ ap (λ z. beq (get_or flags z false) flag) e
+      ∙ ap (λ f. beq f flag) (sym (get_or-take (to - from) (drop from flags) k false lt ∙ get_or-drop from flags k false))
+
+  others : (n : ℕ) → n ≤ to - from → AllWithin (λ f. beq f flag ≡ false) part 0 n → (k : ℕ) → from ≤ k → k < from + n → wears flag flags k ≡ false
+  others n le none k lo hi = flag_at (k - from) k (omega (arith, lo, hi, le)) (omega (arith, lo)) ∙ none (k - from) false (omega arith) (omega (arith, lo, hi))
+
+  pub flag_found : (i : ℕ) → i < length part → HoldsAt (λ f. beq f flag ≡ true) part i → AllWithin (λ f. beq f flag ≡ false) part 0 i
+      → from + i ≡ seek (wears flag flags) (to - from) from
+  flag_found i lt here before =
+      sym
+      (seek_first (wears flag flags) (to - from) from (from + i) (omega arith) (omega (arith, lt, part_long))
+      (flag_at i (from + i) (omega (arith, lt, part_long)) refl ∙ here false) (others i (omega (arith, lt, part_long)) before))
+
+  pub flag_missing : AllWithin (λ f. beq f flag ≡ false) part 0 (length part) → to ≡ seek (wears flag flags) (to - from) from
+  flag_missing none =
+      omega
+      (arith, ordered, seek_past (wears flag flags) (to - from) from (others (to - from) (omega arith) (subst (AllWithin (λ f. beq f flag ≡ false) part 0) part_long none)))

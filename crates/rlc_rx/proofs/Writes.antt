@@ -8,9 +8,9 @@ use Rattle.protocol.specs.Receiving as far
 use Rattle.protocol.specs.Writing.{write, written, pdu_fault}
 use Rattle.protocol.proofs.Drafting.{draft_writes, length-put_at}
 use Rattle.protocol.proofs.Reports.{EntryBetween, Reports, report_from_right, entries_bytes, entries_fit, entries_valid}
-use Rattle.rlc_rx.proofs.Stretches.{limit_short}
+use Rattle.rlc_rx.proofs.Gaps.{limit_short}
 use Rattle.rlc_rx.specs.Slots.{partials}
-use Rattle.rlc_rx.specs.Windows.{sdus_in}
+use Rattle.rlc_rx.specs.Rings.{sdus_in}
 use Rattle.rlc_rx.specs.declared.slots.Slot.{Slot}
 use Rattle.rlc_rx.proofs.Places.{window_seen}
 use Rattle.std.proofs.lemmas.Bool.{cond-true, cond-false, le-ltb}

@@ -1,8 +1,11 @@
 pub mod Flags
+pub mod DataPdus
 pub mod Slots
+pub mod Gaps
+pub mod Entries
+pub mod Rings
 pub mod Reports
 pub mod Windows
 pub mod Views
 pub mod Receptions
-pub mod Gaps
 pub mod Spending

@@ -1,8 +1,5 @@
--- The reporting machine's states and events.
-use Rattle.std.specs.Prelude.{cond}
+-- What the states of the reporting machine stand for.
 use Rattle.protocol.specs.Receiving as far
-use Rattle.rlc_rx.specs.declared.reporting.Event.{Event}
-use Rattle.rlc_rx.specs.declared.reporting.Event.TheVariants.{Trigger, Grant, Timer}
 use Rattle.rlc_rx.specs.declared.reporting.Reporting.{Reporting}
 use Rattle.rlc_rx.specs.declared.reporting.Reporting.TheVariants.{Quiet, Wanted, Barred, BarredWanted}
 
@@ -11,9 +8,3 @@ reporting_of Quiet = far.quiet
 reporting_of Wanted = far.wanted
 reporting_of Barred = far.barred
 reporting_of BarredWanted = far.barred_wanted
-
--- a grant that writes a report bars the next one
-abbrev pub after : Event → far.Reporting → far.Reporting
-after Trigger r = far.triggered r
-after Grant r = cond (far.reports r) far.barred r
-after Timer r = far.unbarred r

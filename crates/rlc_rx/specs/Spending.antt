@@ -2,9 +2,10 @@
 use Rattle.std.specs.Prelude.{◌≡◌, ℕ, length, Some, None, Ok, Err, Option, Result}
 use Rattle.protocol.specs.Bytes.{Bytes, put}
 use Rattle.protocol.specs.Drafts.{Draft, fill}
-use Rattle.protocol.specs.Receiving.{Far, Report}
+use Rattle.protocol.specs.Receiving.{Far, Report, spends}
 use Rattle.protocol.specs.declared.faults.Fault.{Fault}
-use Rattle.wire.specs.Views.{count_of}
+use Rattle.rlc_rx.specs.Views.{State}
+use Rattle.wire.specs.Counts.{count_of}
 use Rattle.wire.specs.declared.counts.Count.{Count}
 use Rattle.wire.specs.declared.counts.Rlc.{Rlc}
 
@@ -15,7 +16,11 @@ Listed report draft buffer (Ok ack) draft' buffer' =
 Listed report draft buffer (Err fault) draft' buffer' = fill report.entries draft buffer ≡ record { answer = Err fault; draft = draft'; buffer = buffer' }
 
 -- the answer, the buffer and the state that are left: none is sent, or a PDU stands at the buffer's start
-abbrev pub spent : Far → Bytes → Result (Option (Bytes × Far)) Fault → Result ℕ Fault × Bytes × Far
-spent f buffer (Err fault) = (Err fault, buffer, f)
-spent f buffer (Ok None) = (Ok 0, buffer, f)
-spent f buffer (Ok (Some (pdu, g))) = (Ok (length pdu), put pdu buffer, g)
+abbrev pub spent : State → Bytes → Result (Option (Bytes × Far)) Fault → Result ℕ Fault × Bytes × State
+spent state buffer (Err fault) = (Err fault, buffer, state)
+spent state buffer (Ok None) = (Ok 0, buffer, state)
+spent state buffer (Ok (Some (pdu, f))) = (Ok (length pdu), put pdu buffer, (state.0, f))
+
+-- ... of a grant of this size
+abbrev pub spending : ℕ → Bytes → State → Result ℕ Fault × Bytes × State
+spending size buffer state = spent state buffer (spends state.0 size (length buffer) state.1)

@@ -1,48 +1,67 @@
--- The window of SDUs, in a ring of sixteen places: what stands under each count.
-use Rattle.std.specs.Prelude.{◌≡◌, ℕ, ◌+◌, ◌-◌, ◌<◌, ◌≤◌, Bool, false, cond, not, ◌&&◌, List, length, ◌==◌, nat_lt}
-use Rattle.protocol.specs.Receiving.{Partial, Reporting, Far, complete_sdu, nothing_held, complete}
+-- The receiving window: what stands under each count, and the far end that has this window.
+use Rattle.std.specs.Prelude.{◌≡◌, ℕ, ◌+◌, ◌<◌, ◌≤◌, Bool, false}
+use Rattle.protocol.specs.Receiving.{Partial, Reporting, quiet, Far, nothing_held, complete, incomplete_from, moved_past, with_reporting, with_highest_status, answering, triggered_if}
 use Rattle.protocol.specs.Rings.{in_ring}
-use Rattle.protocol.specs.Searching.{seek}
-use Rattle.protocol.specs.Timers.{Timer}
+use Rattle.protocol.specs.Timers.{Timer, stopped}
+use Rattle.rlc_rx.specs.Rings.{sdus_in, far_in}
+use Rattle.rlc_rx.specs.Slots.{partials, polls}
+use Rattle.rlc_rx.specs.declared.windows.Window.{Window}
+use Rattle.wire.specs.Counts.{count_of}
 
--- what stands under the count x: the ring has it from `low` to before `high`
-abbrev pub window_in : {A : Type 0} → (below none : A) → (low high : ℕ) → List A → ℕ → A
-window_in below none low high ring x = cond (nat_lt x low) below (cond (nat_lt x high) (in_ring ring x none) none)
+abbrev pub sdus_of : Window → ℕ → Partial
+sdus_of w = sdus_in (count_of w.rx_next) (count_of w.rx_next_highest) (partials w.slots)
 
--- below RX_Next all is complete, and from RX_Next_Highest on nothing was seen
-abbrev pub sdus_in : (next highest : ℕ) → List Partial → ℕ → Partial
-sdus_in next highest ring = window_in complete_sdu nothing_held next highest ring
+-- the far end with this window
+abbrev pub far_with : Window → (t_reassembly : Timer) → Reporting → (t_status_prohibit : Timer) → Far
+far_with w t_reassembly reporting t_status_prohibit =
+    far_in (count_of w.rx_next) (count_of w.rx_next_highest) (count_of w.rx_highest_status) (count_of w.rx_next_status_trigger)
+    (partials w.slots) (polls w.slots) t_reassembly reporting t_status_prohibit
 
--- polls that wait for their answer
-abbrev pub polls_in : (next highest : ℕ) → List Bool → ℕ → Bool
-polls_in next highest ring = window_in false false next highest ring
+-- ... which is quiet, and whose timers are stopped
+abbrev pub window_of : Window → Far
+window_of w = far_with w stopped quiet stopped
 
--- the state whose SDUs and polls stand in rings
-abbrev pub far_in : (next highest status trigger : ℕ) → List Partial → List Bool → (t_reassembly : Timer) → Reporting → (t_status_prohibit : Timer) → Far
-far_in next highest status trigger sdus polls t_reassembly reporting t_status_prohibit =
-    record {
-      rx_next = next;
-      rx_next_highest = highest;
-      rx_highest_status = status;
-      rx_next_status_trigger = trigger;
-      sdu = sdus_in next highest sdus;
-      poll = polls_in next highest polls;
-      t_reassembly = t_reassembly;
-      reporting = reporting;
-      t_status_prohibit = t_status_prohibit;
-    }
+-- the window takes this step of the far end, whatever its timers and its reporting are
+abbrev pub Takes : (Far → Far) → Window → Window → Type 0
+Takes step old new = (t_reassembly : Timer) (reporting : Reporting) (t_status_prohibit : Timer) → far_with new t_reassembly reporting t_status_prohibit ≡ step (far_with old t_reassembly reporting t_status_prohibit)
 
--- The places of the counts from `from` to before `to` were cleared; other counts of the same window are as they were.
-pub record Cleared {A : Type 0} (none : A) (from to : ℕ) (ring ring' : List A) : Type 0 where
-  pub size : length ring' ≡ length ring
-  pub cleared : (x : ℕ) → from ≤ x → x < to → in_ring ring' x none ≡ none
-  pub before : (x : ℕ) → x < from → to ≤ x + 16 → in_ring ring' x none ≡ in_ring ring x none
-  pub behind : (x : ℕ) → to ≤ x → x < from + 16 → in_ring ring' x none ≡ in_ring ring x none
+-- ... and where it has answered a poll, a status report is asked for
+abbrev pub Answers : Bool → (Far → Far) → Window → Window → Type 0
+Answers answered step old new =
+    (t_reassembly : Timer) (reporting : Reporting) (t_status_prohibit : Timer) → far_with new t_reassembly (triggered_if answered reporting) t_status_prohibit ≡ step (far_with old t_reassembly reporting t_status_prohibit)
 
--- the first count from x on that is not complete; `high` is one past the highest count seen
-abbrev pub open_from : (ℕ → Partial) → (high x : ℕ) → ℕ
-open_from sdus high x = seek (λ y. not (complete (sdus y))) (high - x) x
+-- what the slots have under the count x, also once the window has passed it
+abbrev pub stored : Window → ℕ → Partial
+stored w x = in_ring (partials w.slots) x nothing_held
 
--- a variable that moves past the count x where that is complete
-abbrev pub past : (ℕ → Partial) → (high x variable : ℕ) → ℕ
-past sdus high x variable = cond (complete (sdus x) && variable == x) (open_from sdus high x) variable
+-- a report speaks of all that lies below a count that is not complete
+abbrev pub Waits : Window → Type 0
+Waits w = complete (sdus_of w (count_of w.rx_highest_status)) ≡ false
+
+-- The count x lies in the window, and a link has a packet of it.
+pub record IsInWindow (w : Window) (x : ℕ) : Type 0 where
+  pub from : count_of w.rx_next ≤ x
+  pub to : x < count_of w.rx_next + 16
+  pub few : x < 1000000
+
+-- The count x lies in the window, and no higher than the highest that was seen.
+pub record IsSeen (w : Window) (x : ℕ) : Type 0 where
+  pub from : count_of w.rx_next ≤ x
+  pub to : x < count_of w.rx_next_highest
+
+-- ... or is the next one.
+pub record IsInRange (w : Window) (x : ℕ) : Type 0 where
+  pub from : count_of w.rx_next ≤ x
+  pub to : x ≤ count_of w.rx_next_highest
+
+-- RX_Next and RX_Highest_Status have moved past the count x, if that is complete.
+pub record MovesPast (x : ℕ) (old new : Window) : Type 0 where
+  pub next : count_of new.rx_next ≡ moved_past x (window_of old) (count_of old.rx_next)
+  pub highest : count_of new.rx_next_highest ≡ count_of old.rx_next_highest
+  pub status : count_of new.rx_highest_status ≡ moved_past x (window_of old) (count_of old.rx_highest_status)
+  pub trigger : count_of new.rx_next_status_trigger ≡ count_of old.rx_next_status_trigger
+  pub slots : new.slots ≡ old.slots
+
+-- RX_Highest_Status has moved to the first count from the trigger on that is not complete, and polls are answered
+abbrev pub trigger_passed : Far → Far
+trigger_passed f = with_reporting (answering f.rx_next (with_highest_status f (incomplete_from f f.rx_next_status_trigger))) f.reporting

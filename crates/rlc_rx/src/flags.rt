@@ -10,12 +10,10 @@ pub(crate) fn find_flag(flags: &[bool], flag: bool, from: usize, to: usize) -> u
     requires room { to ≤ length flags.now }
     ensures { result ≡ seek (wears flag flags.now) (to - from) from }
 {
-    for i in from..to {
-        if flags[i] == flag {
-            return i;
-        }
+    match flags[from..to].iter().position(|f| *f == flag) {
+        Some(steps) => from + steps,
+        None => to,
     }
-    to
 }
 
 /// Writes `data` from byte `offset` on, where nothing is held.
@@ -37,9 +35,10 @@ fn put_new(bytes: &mut [u8], held: &mut [bool], offset: usize, data: &[u8]) -> u
     ensures { Merged offset (length «data».now) «data».now bytes.old bytes.new held.old held.new result }
 {
     let mut new = 0;
-    for i in 0..data.len() {
+    // No `zip` of two `iter_mut`: once such a loan is over, the check knows a slice's length and not its elements.
+    for (i, byte) in data.iter().enumerate() {
         if !held[offset + i] {
-            bytes[offset + i] = data[i];
+            bytes[offset + i] = *byte;
             held[offset + i] = true;
             new += 1;
         }

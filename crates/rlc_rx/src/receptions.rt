@@ -3,6 +3,7 @@
 ghost use Rattle.std.specs.Prelude.{◌<◌, ◌≤◌};
 
 /// An SDU that has become complete: where the far end has its bytes until the next PDU is read.
+// No slice: it would keep the far end lent, and then no clause could say in which state `read` leaves it.
 #[derive(Clone, Copy)]
 pub struct Completed {
     pub(crate) place: usize,

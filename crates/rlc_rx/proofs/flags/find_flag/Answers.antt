@@ -1,25 +1,18 @@
-use Rattle.std.proofs.Common.{◌≡◌, sym, refl, ◌∙◌, arith}
-use Rattle.rlc_rx.proofs.Seeking.{seek_here, seek_on, seek_over, wears_is}
+use Rattle.std.proofs.Common.{◌≡◌, true, false, rules, tests}
+use mathlib.Core.Bool.{beq}
+use Rattle.rlc_rx.proofs.Seeking.{flag_found, flag_missing}
 use Rattle.rlc_rx.proofs.flags.find_flag.Goals as goal
-use Rattle.rlc_rx.specs.Flags.{wears}
+use Rattle.std.proofs.lemmas.Iterator.{IsFirst-from_position, YieldsList-from_slice}
 
-pub loop-i-init : goal.loop-i-init
-loop-i-init c = refl
+pub returns-in-Some : goal.returns-in-Some
+returns-in-Some c =
+    let flag = c.args.flag in
+    let first = IsFirst-from_position _ _ _ (λ f. beq f flag ≡ true) (λ f. beq f flag ≡ false) c.position.ensures.ran (YieldsList-from_slice _ c.iter.ensures.rest) (λ x q k. search (rules, tests)) (λ x q k. search (rules, tests)) in
+    let found = rw c.in-Some.is at first in
+    flag_found flag c.args.flags.now c.args.from c.args.to c.requires.ordered c.requires.room c.in-Some.steps found.0 found.1 found.2
 
-pub returns-then-flags-i : goal.returns-then-flags-i
-returns-then-flags-i c =
-    let i = c.loop-i.i in
-    let found = wears_is c.args.flag c.args.flags.now i ∙ c.if-flags-i.true in
-    sym (c.loop-i.invariant ∙ seek_here (wears c.args.flag c.args.flags.now) c.args.to i c.loop-i-test.true found)
-
-pub loop-i-preserved : goal.loop-i-preserved
-loop-i-preserved c =
-    let i = c.loop-i.i in
-    let other = wears_is c.args.flag c.args.flags.now i ∙ c.if-flags-i.false in
-    c.loop-i.invariant ∙ seek_on (wears c.args.flag c.args.flags.now) c.args.to i c.loop-i-test.true other
-
-pub returns : goal.returns
-returns c =
-    let i = c.loop-i.i in
-    let end : i ≡ c.args.to = omega (arith, c.loop-i.auto.i-end c.requires.ordered, c.loop-i-test.false) in
-    sym (c.loop-i.invariant ∙ seek_over (wears c.args.flag c.args.flags.now) c.args.to i (omega (arith, c.loop-i-test.false)) ∙ end)
+pub returns-in-None : goal.returns-in-None
+returns-in-None c =
+    let flag = c.args.flag in
+    let first = IsFirst-from_position _ _ _ (λ f. beq f flag ≡ true) (λ f. beq f flag ≡ false) c.position.ensures.ran (YieldsList-from_slice _ c.iter.ensures.rest) (λ x q k. search (rules, tests)) (λ x q k. search (rules, tests)) in
+    flag_missing flag c.args.flags.now c.args.from c.args.to c.requires.ordered c.requires.room (rw c.in-None.is at first)

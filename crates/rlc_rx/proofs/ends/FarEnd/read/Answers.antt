@@ -1,30 +1,22 @@
-use Rattle.std.proofs.Common.{◌≡◌, Ok, Result, sym, ap, ◌∙◌}
-use Rattle.protocol.specs.Pdus.{Pdu, amd}
-use Rattle.protocol.specs.Reading.{decode}
+use Rattle.std.proofs.Common.{Ok, Result, sym, ap, ◌∙◌}
+use Rattle.protocol.specs.Pdus.{Pdu}
 use Rattle.protocol.specs.Receiving as far
-use Rattle.protocol.specs.declared.faults.End.TheVariants.{Far}
 use Rattle.protocol.specs.declared.faults.Fault.{Fault}
-use Rattle.rlc_rx.proofs.Arrives.{far_reads, amd_is}
+use Rattle.rlc_rx.proofs.Arrives.{far_reads}
 use Rattle.rlc_rx.proofs.ends.FarEnd.read.Goals as goal
 use Rattle.rlc_rx.specs.Receptions.{outcome}
-use Rattle.rlc_rx.specs.Views.{far_of}
+use Rattle.rlc_rx.specs.Views.{far_of, state_of}
 use Rattle.timers.specs.Views.{settings_of}
 use Rattle.wire.specs.Views.{pdu_of, amd_of}
 
-pub receive-requires : goal.receive-requires
-receive-requires c =
-    let a = amd_of c.in-Some.header c.in-Some.data.now in
-    let is = amd_is (pdu_of c.in_ok-pdu.pdu) a c.in-Some.ensures in
-    let r = far_reads c.args.bytes.now a (sym c.in_ok-pdu.ensures.value ∙ ap {B = Result Pdu Fault} Ok is) in
-    record { some = r.some; room = r.room }
+pub invariant_of-receive : goal.invariant_of-receive
+invariant_of-receive c =
+    let a = amd_of c.in-Amd.header c.in-Amd.data.bytes.now in
+    let r = far_reads c.args.bytes.now a (sym c.in_ok-pdu.ensures.value ∙ ap {B = Result Pdu Fault} (λ p. Ok (pdu_of p)) c.in-Amd.is) in
+    record { some = r.some; short = r.room }
 
-pub returns-in-Some : goal.returns-in-Some
-returns-in-Some c =
-    let f = far_of c.args.self.now in
-    let a = amd_of c.in-Some.header c.in-Some.data.now in
-    let is = amd_is (pdu_of c.in_ok-pdu.pdu) a c.in-Some.ensures in
-    let read : decode Far c.args.bytes.now ≡ Ok (amd a) = sym c.in_ok-pdu.ensures.value ∙ ap {B = Result Pdu Fault} Ok is in
-    record {
-      answer = c.receive.ensures.answer ∙ sym (ap (λ d. outcome f (far.reads (settings_of c.args.self.now.settings) d f)) read);
-      settings = c.receive.ensures.settings;
-    }
+pub returns-in-Amd : goal.returns-in-Amd
+returns-in-Amd c =
+    let e = c.args.self.now in
+    let read = sym c.in_ok-pdu.ensures.value ∙ ap {B = Result Pdu Fault} (λ p. Ok (pdu_of p)) c.in-Amd.is in
+    c.receive.ensures ∙ sym (ap (λ d. outcome (state_of e) (far.reads (settings_of e.settings) d (far_of e))) read)

@@ -7,22 +7,22 @@ use Rattle.rlc_rx.proofs.ends.FarEnd.write_report.Goals as goal
 use Rattle.rlc_rx.specs.Views.{far_of}
 use Rattle.rlc_rx.specs.declared.ends.FarEnd.{FarEnd}
 use Rattle.wire.specs.Drafted.{draft_of}
-use Rattle.wire.specs.Views.{count_of, sn_of}
+use Rattle.wire.specs.Counts.{count_of, sn_of}
 use Rattle.protocol.specs.Bytes.{Bytes, put}
 use Rattle.protocol.specs.Pdus.{encode}
 
 short : (e : FarEnd) (y : ℕ) → (far_of e).rx_next ≤ y → y < (far_of e).rx_highest_status → far.limit ((far_of e).sdu y) < 65536
-short e y lo hi = sdus_short (count_of e.counters.rx_next) (count_of e.counters.rx_next_highest) e.slots y lo (omega (arith, hi, e.counters.status_to))
+short e y lo hi = sdus_short (count_of e.window.rx_next) (count_of e.window.rx_next_highest) e.window.slots y lo (omega (arith, hi, e.window.status_to))
 
 near : (e : FarEnd) → (far_of e).rx_highest_status ≤ (far_of e).rx_next + 16
-near e = omega (arith, e.counters.status_to, e.counters.window)
+near e = omega (arith, e.window.status_to, e.window.window)
 
 pub returns-in_err-ack : goal.returns-in_err-ack
 returns-in_err-ack c =
     let e = c.args.self.now in
     let f = far_of e in
     let b = c.args.buffer.now in
-    let ok = filled f c.args.size b (short e) e.counters.status_from (near e) c.requires.least c.requires.room in
+    let ok = filled f c.args.size b (short e) e.window.status_from (near e) c.requires.least c.requires.room in
     let refused = c.in_err-ack.ensures in
     let same = ap (λ d. fill (far.report f c.args.size).entries d b) c.open-draft.ensures in
     let clash : ◌≡◌ {A = Result (Unit {0}) Fault} (Ok tt) (Err c.in_err-ack.field-0.0) = sym ok ∙ sym (ap (λ s. s.answer) same) ∙ ap (λ s. s.answer) refused in
@@ -36,7 +36,7 @@ closing_is e size ack sn b b' start d step least room open_is ack-is sn-is fills
     let f = far_of e in
     let number : sn ≡ (far.report f size).ack % 4096 = omega (arith, sn-is, ack-is) in
     let full = sym (ap (λ s. fill (far.report f size).entries s b) open_is) ∙ fills in
-    let w = closes f size b (short e) e.counters.status_from (near e) least room d b' full in
+    let w = closes f size b (short e) e.window.status_from (near e) least room d b' full in
     let is = closing ∙ ap (λ n. close n d b') number in
     (ap (λ s. s.answer) is ∙ w.0, ap (λ s. s.buffer) is ∙ w.1)
 

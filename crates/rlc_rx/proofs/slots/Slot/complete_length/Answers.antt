@@ -1,11 +1,13 @@
-use Rattle.std.proofs.Common.{sym}
-use Rattle.rlc_rx.proofs.Pieces.{handed_is, end_found}
+use Rattle.std.proofs.Common.{◌≤◌, IfSome, sym, ap, ◌∙◌, subst}
+use Rattle.rlc_rx.proofs.Pieces.{count_hands}
 use Rattle.rlc_rx.proofs.slots.Slot.complete_length.Goals as goal
+use Rattle.rlc_rx.specs.Receptions.{handed}
 
-pub returns-then-is_complete : goal.returns-then-is_complete
-returns-then-is_complete c =
+pub returns : goal.returns
+returns c =
     let s = c.args.self.now in
+    let h = count_hands s c.is_complete.result c.is_complete.ensures in
     record {
-      value = handed_is s.held s.bytes s.known_end s.top s.room.0 s.bounded (sym c.if-is_complete.ensures);
-      short = end_found s.held s.bytes s.known_end s.top s.bounded;
+      value = ap (λ o. handed o s.bytes) c.then_some.ensures ∙ h.0;
+      short = subst (λ o. IfSome o (λ n. n ≤ 502)) (sym c.then_some.ensures) h.1;
     }

@@ -1,6 +1,6 @@
 use Rattle.std.proofs.Common.{◌≡◌, ◌-◌, ◌<◌, ap, ◌∙◌, subst, arith}
 use Rattle.protocol.specs.Receiving as far
-use Rattle.rlc_rx.proofs.Stretches.{gap_longer}
+use Rattle.rlc_rx.proofs.Gaps.{gap_longer}
 use Rattle.rlc_rx.proofs.slots.Slot.gap_from.Goals as goal
 use Rattle.rlc_rx.specs.Slots.{partial_of}
 use Rattle.protocol.proofs.Seeks.{seek_to}
@@ -8,7 +8,7 @@ use Rattle.protocol.proofs.Seeks.{seek_to}
 pub gap_end-requires : goal.gap_end-requires
 gap_end-requires c =
     let p = partial_of c.args.self.now in
-    let i = c.args.i in
+    let i = c.args.from in
     let lim = c.limit-limit.result in
     let a = c.missing_from-start.ensures in
     let b = c.held_from-stop.ensures in

@@ -1,10 +1,10 @@
-use Rattle.std.proofs.Common.{◌≡◌, ℕ, ◌+◌, ◌≤◌, max, cond, length, Some, Option, sym, ap, ◌∙◌, subst, arith, rules}
+use Rattle.std.proofs.Common.{◌≡◌, ◌+◌, ◌≤◌, max, cond, length, Some, sym, ap, ◌∙◌, subst, arith, rules}
 use Rattle.protocol.specs.Pdus.{Amd}
 use Rattle.protocol.specs.Receiving.{data_end, marks_end}
 use Rattle.rlc_rx.proofs.Pieces.{tally_short, grown_beyond, grown_highest, received_is, bounds_after}
 use Rattle.rlc_rx.proofs.slots.Slot.receive.Goals as goal
+use Rattle.rlc_rx.specs.DataPdus.{data_pdu_of}
 use Rattle.rlc_rx.specs.Flags.{Merged, NoneFrom, EndsAt, bounds}
-use Rattle.wire.specs.Views.{amd_of}
 
 pub overflow_add-self : goal.overflow_add-self
 overflow_add-self c =
@@ -16,28 +16,25 @@ overflow_add-self c =
 pub invariant_of-self : goal.invariant_of-self
 invariant_of-self c =
     let s = c.args.self.now in
-    let a : Amd = amd_of c.args.header c.args.data.now in
-    let m = subst (λ o. Merged o (length a.payload) a.payload s.bytes c.put.new.bytes s.held c.put.new.held c.put.result) c.offset-start.ensures c.put.ensures in
-    let top : max s.top (data_end a) ≡ c.max-self.result = sym (c.max-self.ensures ∙ ap (λ o. max s.top (o + length a.payload)) c.offset-start.ensures) in
-    let end : c.end_after-self.result ≡ cond (marks_end a.segment) (Some (data_end a)) s.known_end =
-    c.end_after-self.ensures ∙ ap {B = Option ℕ} (λ o. cond (marks_end a.segment) (Some (o + length a.payload)) s.known_end) c.offset-start.ensures in
+    let pdu = c.args.pdu.now in
+    let a : Amd = data_pdu_of pdu in
+    let m = subst (λ o. Merged o (length a.payload) a.payload s.bytes c.put.new.bytes s.held c.put.new.held c.put.result) c.offset.ensures c.put.ensures in
+    let top : max s.top (data_end a) ≡ c.max-self.result = sym (c.max-self.ensures ∙ ap (max s.top) c.end.ensures) in
     let beyond = subst (λ t. NoneFrom t c.put.new.held) top (grown_beyond a _ _ _ _ _ s.top s.known_end m s.beyond) in
-    let highest = subst (λ t. EndsAt t c.put.new.held) top (grown_highest a _ _ _ _ _ s.top s.known_end m c.requires.some s.highest) in
-    let bounded = bounds_after a s.bytes s.held s.top s.known_end s.short s.beyond s.highest s.bounded c.requires.room c.requires.fits in
+    let highest = subst (λ t. EndsAt t c.put.new.held) top (grown_highest a _ _ _ _ _ s.top s.known_end m pdu.some s.highest) in
+    let bounded = bounds_after a s.bytes s.held s.top s.known_end s.short s.beyond s.highest s.bounded pdu.short c.requires in
     record {
       room = (m.sizes.0 ∙ s.room.0, m.sizes.1 ∙ s.room.1);
       counted = omega (arith, s.counted, m.counted);
-      short = omega (arith, top, s.short, c.requires.room);
+      short = omega (arith, top, s.short, pdu.short);
       beyond = beyond;
       highest = highest;
-      bounded = ap (λ e. bounds e c.max-self.result) end ∙ ap (bounds (cond (marks_end a.segment) (Some (data_end a)) s.known_end)) (sym top) ∙ bounded;
+      bounded = ap (λ e. bounds e c.max-self.result) c.end_after-self.ensures ∙ ap (bounds (cond (marks_end a.segment) (Some (data_end a)) s.known_end)) (sym top) ∙ bounded;
     }
 
 pub returns : goal.returns
 returns c =
     let s = c.args.self.now in
-    let a : Amd = amd_of c.args.header c.args.data.now in
-    let m = subst (λ o. Merged o (length a.payload) a.payload s.bytes c.put.new.bytes s.held c.put.new.held c.put.result) c.offset-start.ensures c.put.ensures in
-    let end : c.end_after-self.result ≡ cond (marks_end a.segment) (Some (data_end a)) s.known_end =
-    c.end_after-self.ensures ∙ ap {B = Option ℕ} (λ o. cond (marks_end a.segment) (Some (o + length a.payload)) s.known_end) c.offset-start.ensures in
-    record { sdu = received_is a _ _ _ _ _ s.top s.known_end m c.end_after-self.result end; poll = search rules }
+    let a : Amd = data_pdu_of c.args.pdu.now in
+    let m = subst (λ o. Merged o (length a.payload) a.payload s.bytes c.put.new.bytes s.held c.put.new.held c.put.result) c.offset.ensures c.put.ensures in
+    record { sdu = received_is a _ _ _ _ _ s.top s.known_end m c.end_after-self.result c.end_after-self.ensures; poll = search rules }

@@ -1,0 +1,20 @@
+use Rattle.std.proofs.Common.{ap, ◌∙◌}
+use Rattle.protocol.specs.Receiving.{clashes}
+use Rattle.rlc_rx.proofs.WindowSteps.{had, takes_kept}
+use Rattle.rlc_rx.proofs.windows.Window.keep.Goals as goal
+use Rattle.rlc_rx.specs.DataPdus.{data_pdu_of}
+use Rattle.rlc_rx.specs.Slots.{partials, polls}
+use Rattle.wire.specs.Counts.{count_of}
+
+pub receive-requires : goal.receive-requires
+receive-requires c =
+    let x = count_of c.args.x in
+    let was = had c.args.self.now x c.requires.inside _ _ _ c.value-seen.ensures c.value-count.ensures c.max.ensures (partials c.clear.new.slots) c.clear.ensures.sdus in
+    ap (λ p. clashes p (data_pdu_of c.args.pdu.now)) was ∙ c.requires.fits
+
+pub returns : goal.returns
+returns c =
+    let s = c.see.ensures in
+    takes_kept c.args.self.now (count_of c.args.x) c.requires.inside _ _ _ c.value-seen.ensures c.value-count.ensures c.max.ensures (partials c.clear.new.slots) c.clear.ensures.sdus
+    (polls c.clear.new.slots) c.clear.ensures.flags c.see.new.self s.next s.highest s.status s.trigger (data_pdu_of c.args.pdu.now)
+    (ap partials s.slots ∙ c.receive.ensures.sdus) (ap polls s.slots ∙ c.receive.ensures.flags)
