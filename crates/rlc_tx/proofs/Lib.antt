@@ -7,7 +7,7 @@ pub mod OfSlot
 pub mod Sends
 pub mod Considers
 pub mod InWindow
-pub mod Given
+pub mod Found
 pub mod Served
 pub mod OfEnd
 pub mod Written

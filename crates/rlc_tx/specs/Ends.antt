@@ -30,7 +30,7 @@ near_of n =
       pdcp_tx_next = count_of n.pdcp_tx_next;
       tx_next = count_of n.window.tx_next;
       tx_next_ack = count_of n.window.tx_next_ack;
-      sdu = sdus_in n.slots n.window;
+      sdu = sdus_in n.window;
       polling = polling_of n.polling;
       failed = n.failed;
     }

@@ -3,6 +3,7 @@ use Rattle.std.specs.Prelude.{◌≡◌, ℕ, ◌-◌, Bool, cond, not, ◌||◌
 use Rattle.protocol.specs.Searching.{seek}
 use Rattle.protocol.specs.Sending as protocol
 use Rattle.rlc_tx.specs.Plans.{run_of, Front, served_as}
+use Rattle.rlc_tx.specs.Windows.{sdus_in}
 use Rattle.rlc_tx.specs.declared.soughts.Sought.{Sought}
 use Rattle.rlc_tx.specs.declared.soughts.Sought.TheVariants.{Pending, Unsent, Unbegun, Left, LeftAfter, Exhausted, Unacknowledged}
 use Rattle.rlc_tx.specs.declared.windows.Window.{Window}
@@ -35,7 +36,7 @@ Ready Unacknowledged x s = Unit {0}
 abbrev pub first_in : (ℕ → Bool) → (first next : ℕ) → Option ℕ
 first_in test first next = cond (nat_lt (seek test (next - first) first) next) (Some (seek test (next - first) first)) None
 
--- whether a link has failed: it had before, or an SDU of the window was sent too often
-abbrev pub failed_by : Bool → ℕ → (ℕ → protocol.Sdu) → Window → Bool
-failed_by failed max_retx sdu w =
-    failed || is_some (first_in (λ x. protocol.exhausted max_retx (sdu x).retx_count) (count_of w.tx_next_ack) (count_of w.tx_next))
+-- an SDU of the window was sent too often
+abbrev pub exhausted_in : ℕ → Window → Bool
+exhausted_in max_retx w =
+    is_some (first_in (λ x. protocol.exhausted max_retx (sdus_in w x).retx_count) (count_of w.tx_next_ack) (count_of w.tx_next))

@@ -1,10 +1,9 @@
 //! The near end's state.
 
-ghost use Rattle.std.specs.Prelude.{◌≡◌, ◌≤◌, false, length};
+ghost use Rattle.std.specs.Prelude.{◌≡◌, ◌≤◌, false};
 ghost use Rattle.rlc_tx.specs.Windows.{Untired, sdus_in};
 ghost use Rattle.wire.specs.Views.{count_of};
 
-use crate::slots::Slot;
 use crate::windows::Window;
 use timers::{Settings, Timer};
 use wire::{PdcpCount, RlcCount};
@@ -34,12 +33,9 @@ pub struct NearEnd {
     /// TX_NEXT: the COUNT of the next packet.
     pub(crate) pdcp_tx_next: PdcpCount,
     pub(crate) window: Window,
-    /// The SDUs of the window, each at its count modulo 16.
-    pub(crate) slots: [Slot; 16],
     pub(crate) polling: Polling,
     pub(crate) failed: bool,
     ghost numbers: { settings.max_retx ≤ 255 },
     ghost together: { count_of pdcp_tx_next ≡ count_of window.tx_next },
-    ghost ring: { length slots ≡ 16 },
-    ghost untired: { (failed ≡ false → Untired settings.max_retx (sdus_in slots window)) },
+    ghost untired: { (failed ≡ false → Untired settings.max_retx (sdus_in window)) },
 }

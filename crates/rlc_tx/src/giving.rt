@@ -7,7 +7,6 @@ ghost use Rattle.rlc_tx.specs.Ends.{near_of, given_by, count_answered};
 ghost use Rattle.wire.specs.Views.{count_of};
 
 use crate::ends::{NearEnd, Polling};
-use crate::sliding::place;
 use crate::slots::Slot;
 use crate::windows::Window;
 use timers::{Settings, Timer};
@@ -46,7 +45,6 @@ impl NearEnd {
             settings,
             pdcp_tx_next: PdcpCount::first(Pdcp),
             window: Window::new(),
-            slots: [Slot::empty(); 16],
             polling: Polling {
                 poll_sn: RlcCount::first(Rlc),
                 pdu_without_poll: 0,
@@ -86,9 +84,7 @@ impl NearEnd {
         ensures set { self.new.settings ≡ self.old.settings }
     {
         let count = self.pdcp_tx_next;
-        let window = self.window;
-        self.slots[place(window.tx_next)] = Slot::new(count.sn(), packet);
-        self.window = window.grow();
+        self.window.push(Slot::new(count.sn(), packet));
         self.pdcp_tx_next = next(count);
         count
     }

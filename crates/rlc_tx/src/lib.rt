@@ -1,7 +1,6 @@
 //! The near end: PDCP numbers packets, and RLC's transmitting side sends them until they are acknowledged.
 #![tactic(auto)]
 
-mod editing;
 mod ends;
 mod giving;
 mod marking;
@@ -9,8 +8,6 @@ mod marks;
 mod planning;
 mod plans;
 mod reporting;
-mod searching;
-mod sliding;
 mod slots;
 mod soughts;
 mod spending;

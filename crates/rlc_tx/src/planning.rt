@@ -9,7 +9,6 @@ ghost use Rattle.wire.specs.Views.{count_of};
 
 use crate::ends::NearEnd;
 use crate::plans::{Plan, Run};
-use crate::searching::{first, slot_at};
 use crate::soughts::Sought;
 use wire::Grant;
 
@@ -29,8 +28,8 @@ impl NearEnd {
     fn next_run(&self, grant: usize) -> Option<Run>
         ensures { option_map run_of result ≡ served (near_of self.now) grant }
     {
-        if let Some(count) = first(&self.slots, self.window, Sought::Pending) {
-            let (from, size) = slot_at(&self.slots, self.window, count).pending_run(grant);
+        if let Some(count) = self.window.first(Sought::Pending) {
+            let (from, size) = self.window.slot(count).pending_run(grant);
             let new = false;
             return Some(Run {
                 count,
@@ -39,8 +38,8 @@ impl NearEnd {
                 new,
             });
         }
-        let count = first(&self.slots, self.window, Sought::Unsent)?;
-        let (from, size) = slot_at(&self.slots, self.window, count).unsent_run(grant);
+        let count = self.window.first(Sought::Unsent)?;
+        let (from, size) = self.window.slot(count).unsent_run(grant);
         let new = true;
         Some(Run {
             count,
@@ -66,7 +65,7 @@ impl NearEnd {
         requires { Front (served_as run.new) ((near_of self.now).sdu (count_of run.count)) run.from run.size }
         ensures { result ≡ nothing_to_send (marked (run_of run) (near_of self.now)) }
     {
-        first(&self.slots, self.window, Sought::LeftAfter(run)).is_none()
+        self.window.first(Sought::LeftAfter(run)).is_none()
     }
 
     /// P: enough PDUs went without one, nothing is left to send, or a poll is owed.

@@ -3,31 +3,18 @@
 ghost use Rattle.std.specs.Prelude.{◌≡◌, false, length, Ok};
 ghost use Rattle.protocol.specs.Bytes.{put};
 ghost use Rattle.protocol.specs.Pdus.{amd, encode};
-ghost use Rattle.protocol.specs.Sending.{top, counted, reached, marked, amd_of_run, spent, polls, spends};
+ghost use Rattle.protocol.specs.Sending.{counted, reached, marked, amd_of_run, spent, polls, spends};
 ghost use Rattle.rlc_tx.specs.Ends.{near_of, set_by, polling_of, spent_by, polled_by};
 ghost use Rattle.rlc_tx.specs.Plans.{run_of, Serves};
 ghost use Rattle.wire.specs.Views.{count_of};
 
-use crate::editing::send_at;
 use crate::ends::{NearEnd, Polling};
 use crate::giving::refused;
 use crate::plans::{Plan, Run};
-use crate::searching::{first, slot_at};
-use crate::soughts::Sought;
 use timers::Timer;
-use wire::{Fault, Grant, Header, Refusal, RlcCount, write_amd};
+use wire::{Fault, Grant, Header, Refusal, write_amd};
 
 impl NearEnd {
-    /// One past the highest count of which a byte was sent.
-    pub(crate) fn top(&self) -> RlcCount
-        ensures { count_of result ≡ top (near_of self.now) }
-    {
-        match first(&self.slots, self.window, Sought::Unbegun) {
-            Some(count) => count,
-            None => self.window.tx_next,
-        }
-    }
-
     /// Writes a PDU at the buffer's start.
     fn write(&self, plan: Plan, buffer: &mut [u8]) -> Result<usize, Fault>
         requires run { Serves (near_of self.now) (length buffer.old) (run_of plan.run) }
@@ -36,7 +23,7 @@ impl NearEnd {
         ensures buffer { buffer.new ≡ put (encode (amd (amd_of_run (set_by self.now) (run_of plan.run) (near_of self.now)))) buffer.old }
     {
         let Plan { run, poll } = plan;
-        let slot = slot_at(&self.slots, self.window, run.count);
+        let slot = self.window.slot(run.count);
         let header = Header {
             poll,
             sn: run.count.sn(),
@@ -52,8 +39,7 @@ impl NearEnd {
         ensures near { near_of self.new ≡ marked (run_of run) (near_of self.old) }
         ensures set { self.new.settings ≡ self.old.settings }
     {
-        let window = self.window;
-        send_at(&mut self.slots, window, run);
+        self.window.send(run);
     }
 
     /// The polls of a near end that has just sent a PDU, with P or without.
@@ -63,7 +49,7 @@ impl NearEnd {
     {
         if poll {
             return Polling {
-                poll_sn: self.top().previous(),
+                poll_sn: self.window.top().previous(),
                 pdu_without_poll: 0,
                 owed: false,
                 t_poll_retransmit: Timer::start(Some(self.settings.t_poll_retransmit)),

@@ -1,12 +1,12 @@
 use Rattle.std.proofs.Common.{◌≡◌, ◌+◌, false, sym, refl, ap, ◌∙◌, subst}
 use Rattle.protocol.specs.Pdus.{encode_pdcp}
+use Rattle.protocol.specs.Searching.{update}
 use Rattle.protocol.specs.Sending.{unsent_sdu, exhausted}
-use Rattle.rlc_tx.proofs.Given.{sdus_after}
 use Rattle.rlc_tx.proofs.InWindow.{update_each}
 use Rattle.rlc_tx.proofs.ends.NearEnd.accept.Goals as goal
 use Rattle.rlc_tx.specs.Ends.{near_of}
 use Rattle.rlc_tx.specs.Windows.{sdus_in}
-use Rattle.std.proofs.lemmas.List.{length-set}
+use Rattle.wire.specs.Views.{count_of}
 
 pub invariant_of-self : goal.invariant_of-self
 invariant_of-self c =
@@ -14,11 +14,10 @@ invariant_of-self c =
     let sdu-is = c.new.ensures ∙ ap (λ sn. unsent_sdu (encode_pdcp sn c.args.packet.now)) c.sn.ensures in
     record {
       numbers = n.numbers;
-      together = c.next-self.ensures ∙ ap (λ k. k + 1) n.together ∙ sym c.grow-self.ensures.next;
-      ring = length-set n.slots c.place.result c.new.result ∙ n.ring;
+      together = c.next-self.ensures ∙ ap (λ k. k + 1) n.together ∙ sym c.push.ensures.next;
       untired = λ alive y.
-          subst (λ s. exhausted n.settings.max_retx s.retx_count ≡ false) (sym (sdus_after n c.grow-self.result c.new.result c.place.result _ c.grow-self.ensures.first c.grow-self.ensures.next c.requires.room c.place.ensures sdu-is y))
-          (update_each (λ s. exhausted n.settings.max_retx s.retx_count ≡ false) (sdus_in n.slots n.window) _ _ (n.untired alive) refl y);
+          subst (λ s. exhausted n.settings.max_retx s.retx_count ≡ false) (sym (c.push.ensures.sdus y ∙ ap (λ s. update (sdus_in n.window) (count_of n.window.tx_next) s y) sdu-is))
+          (update_each (λ s. exhausted n.settings.max_retx s.retx_count ≡ false) (sdus_in n.window) _ _ (n.untired alive) refl y);
     }
 
 pub returns : goal.returns
@@ -30,9 +29,9 @@ returns c =
       near = λ i.
           record {
             pdcp_tx_next = c.next-self.ensures i;
-            tx_next = c.grow-self.ensures.next i;
-            tx_next_ack = c.grow-self.ensures.first i;
-            sdu = λ y. sdus_after n c.grow-self.result c.new.result c.place.result _ c.grow-self.ensures.first c.grow-self.ensures.next c.requires.room c.place.ensures sdu-is y i;
+            tx_next = c.push.ensures.next i;
+            tx_next_ack = c.push.ensures.first i;
+            sdu = λ y. (c.push.ensures.sdus y ∙ ap (λ s. update (sdus_in n.window) (count_of n.window.tx_next) s y) sdu-is) i;
             polling = (near_of n).polling;
             failed = n.failed;
           };

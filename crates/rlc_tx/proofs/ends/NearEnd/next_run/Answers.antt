@@ -16,8 +16,8 @@ run_is new test n s count from size grant is first long =
     let most = long ∙ ap (λ f. near.run_from test s f grant) first ∙ ap (λ t. near.run_from test t (near.byte_from test t 0) grant) is in
     λ i. record { count = count; from = start i; size = most i; new = new }
 
-pub slot_at-requires : goal.slot_at-requires
-slot_at-requires c =
+pub slot-requires : goal.slot-requires
+slot-requires c =
     let n = c.args.self.now in
     let f = found_at _ _ _ n.window.ordered (count_of c.in-Some.count) (sym c.in-Some.ensures) in
     record { from = f.0; to = f.1 }
@@ -25,14 +25,14 @@ slot_at-requires c =
 pub pending_run-from-requires : goal.pending_run-from-requires
 pending_run-from-requires c =
     let n = c.args.self.now in
-    ap (near.has near.is_pending) c.slot_at.ensures ∙ (found_at _ _ _ n.window.ordered (count_of c.in-Some.count) (sym c.in-Some.ensures)).2
+    ap (near.has near.is_pending) c.slot.ensures ∙ (found_at _ _ _ n.window.ordered (count_of c.in-Some.count) (sym c.in-Some.ensures)).2
 
 pub returns-in-Some : goal.returns-in-Some
 returns-in-Some c =
     let n = c.args.self.now in
     let run = c.pending_run-from.result in
     ap (λ (r : near.Run). Some r)
-    (run_is false near.is_pending (near_of n) _ (count_of c.in-Some.count) run.0 run.1 c.args.grant c.slot_at.ensures c.pending_run-from.ensures.first c.pending_run-from.ensures.size)
+    (run_is false near.is_pending (near_of n) _ (count_of c.in-Some.count) run.0 run.1 c.args.grant c.slot.ensures c.pending_run-from.ensures.first c.pending_run-from.ensures.size)
     ∙ sym (served_pending (near_of n) (ordered n) c.args.grant (count_of c.in-Some.count) (sym c.in-Some.ensures))
 
 pub returns-in_err-count : goal.returns-in_err-count
@@ -40,8 +40,8 @@ returns-in_err-count c =
     let n = c.args.self.now in
     ap (option_map run_of) c.from_residual.ensures ∙ sym (served_unsent (near_of n) (ordered n) c.args.grant None (sym c.in_default.ensures) (sym c.in_err-count.ensures))
 
-pub slot_at-requires-2 : goal.slot_at-requires-2
-slot_at-requires-2 c =
+pub slot-requires-2 : goal.slot-requires-2
+slot-requires-2 c =
     let n = c.args.self.now in
     let f = found_at _ _ _ n.window.ordered (count_of c.in_ok-count.count) (sym c.in_ok-count.ensures) in
     record { from = f.0; to = f.1 }
@@ -52,5 +52,5 @@ returns c =
     let run = c.unsent_run-from.result in
     let count = count_of c.in_ok-count.count in
     ap (λ (r : near.Run). Some r)
-    (run_is true near.is_unsent (near_of n) _ count run.0 run.1 c.args.grant c.slot_at-2.ensures c.unsent_run-from.ensures.first c.unsent_run-from.ensures.size)
+    (run_is true near.is_unsent (near_of n) _ count run.0 run.1 c.args.grant c.slot-2.ensures c.unsent_run-from.ensures.first c.unsent_run-from.ensures.size)
     ∙ sym (served_unsent (near_of n) (ordered n) c.args.grant (Some count) (sym c.in_default.ensures) (sym c.in_ok-count.ensures))

@@ -1,0 +1,29 @@
+use Rattle.std.proofs.Common.{◌≡◌, ◌+◌, get_or, refl, ap, ◌∙◌, arith}
+use Rattle.protocol.specs.Sending.{Near, with_sdus}
+use Rattle.rlc_tx.proofs.InWindow.{same_sdus}
+use Rattle.rlc_tx.proofs.Settled.{settled_more}
+use Rattle.rlc_tx.proofs.windows.Window.acknowledge_all.Goals as goal
+use Rattle.rlc_tx.specs.Touches.{named_of, settled, settled_to}
+use Rattle.rlc_tx.specs.Windows.{sdus_in, bare, with_sdu}
+use Rattle.rlc_tx.specs.declared.touches.Touch.TheVariants.{Unnamed}
+use Rattle.std.proofs.Common.{ltb}
+use Rattle.wire.specs.Views.{count_of}
+
+pub loop-k-preserved : goal.loop-k-preserved
+loop-k-preserved c =
+    let w = c.args.self.now in
+    let touches = c.args.touches.now in
+    let count = count_of c.count-count.result in
+    let ack = count_of c.args.ack in
+    let touch = get_or touches c.place.result Unnamed in
+    let at : count ≡ count_of w.tx_next_ack + c.loop-k.k = c.count-count.ensures ∙ ap (λ (m : Near). m.tx_next_ack + c.loop-k.k) c.loop-k.invariant in
+    c.acknowledge_one.ensures ∙ ap (λ (m : Near). with_sdu m count (settled (ltb count ack) (named_of touch) (m.sdu count))) c.loop-k.invariant
+    ∙ same_sdus (bare w) _ _
+    (settled_more (count_of w.tx_next_ack) c.loop-k.k ack count touches (sdus_in w) (settled_to (count_of w.tx_next_ack) (count_of w.tx_next_ack + c.loop-k.k) ack touches (sdus_in w)) touch at
+    (ap (λ i. get_or touches i Unnamed) c.place.ensures) (λ x. refl))
+
+pub returns : goal.returns
+returns c =
+    let w = c.args.self.now in
+    let all : count_of w.tx_next_ack + c.loop-k.k ≡ count_of w.tx_next = omega (arith, c.loop-k-test.false, c.len-k-end.ensures, c.loop-k.auto, w.ordered) in
+    c.loop-k.invariant ∙ ap (λ next. with_sdus (bare w) (settled_to (count_of w.tx_next_ack) next (count_of c.args.ack) c.args.touches.now (sdus_in w))) all

@@ -1,0 +1,49 @@
+use Rattle.std.proofs.Common.{◌≡◌, ℕ, ◌-◌, Bool, false, cond, not, ltb, map, ap, ◌∙◌, arith}
+use Rattle.protocol.proofs.Seeks.{seek_from, seek_to}
+use Rattle.protocol.specs.Searching.{seek}
+use Rattle.protocol.specs.Sending.{new_near, gone}
+use Rattle.rlc_tx.proofs.Found.{unwrap_mapped, ends}
+use Rattle.rlc_tx.proofs.InWindow.{slid}
+use Rattle.rlc_tx.proofs.windows.Window.advance.Goals as goal
+use Rattle.rlc_tx.specs.Slots.{sdu_of}
+use Rattle.rlc_tx.specs.Soughts.{first_in}
+use Rattle.rlc_tx.specs.Windows.{sdus_in}
+use Rattle.rlc_tx.specs.declared.windows.Window.{Window}
+use Rattle.std.proofs.Common.{Option, unwrap_or}
+use Rattle.std.specs.Option.{option_map}
+use Rattle.wire.specs.Views.{count_of}
+use Rattle.wire.specs.declared.counts.Count.{Count}
+use Rattle.wire.specs.declared.counts.Rlc.{Rlc}
+
+abbrev is_open : Window → ℕ → Bool
+is_open w x = not (sdus_in w x).acknowledged
+
+abbrev start : Window → ℕ
+start w = seek (is_open w) (count_of w.tx_next - count_of w.tx_next_ack) (count_of w.tx_next_ack)
+
+start_is : (w : Window) (found : Option (Count Rlc)) (count : Count Rlc) → count ≡ unwrap_or found w.tx_next
+    → option_map count_of found ≡ first_in (is_open w) (count_of w.tx_next_ack) (count_of w.tx_next) → count_of count ≡ start w
+start_is w found count is e = ap count_of is ∙ unwrap_mapped count_of found w.tx_next ∙ ends (is_open w) _ _ w.ordered (option_map count_of found) e
+
+pub invariant_of-self : goal.invariant_of-self
+invariant_of-self c =
+    let w = c.args.self.now in
+    let at = start_is w c.first.result c.unwrap_or-self.result c.unwrap_or-self.ensures c.first.ensures in
+    let from = seek_from (is_open w) (count_of w.tx_next - count_of w.tx_next_ack) (count_of w.tx_next_ack) in
+    let to = seek_to (is_open w) (count_of w.tx_next - count_of w.tx_next_ack) (count_of w.tx_next_ack) in
+    record { ordered = omega (arith, at, to, w.ordered); bounded = omega (arith, at, from, w.bounded); few = w.few; ring = w.ring }
+
+pub returns : goal.returns
+returns c =
+    let w = c.args.self.now in
+    let at = start_is w c.first.result c.unwrap_or-self.result c.unwrap_or-self.ensures c.first.ensures in
+    let from = seek_from (is_open w) (count_of w.tx_next - count_of w.tx_next_ack) (count_of w.tx_next_ack) in
+    λ i.
+    record {
+      pdcp_tx_next = 0;
+      tx_next = count_of w.tx_next;
+      tx_next_ack = at i;
+      sdu = λ x. (slid (map sdu_of w.slots) (count_of w.tx_next_ack) (count_of w.tx_next) (count_of c.unwrap_or-self.result) (omega (arith, at, from)) x ∙ ap (λ to. cond (ltb x to) gone (sdus_in w x)) at) i;
+      polling = new_near.polling;
+      failed = false;
+    }
