@@ -7,7 +7,7 @@ use Rattle.rlc_tx.proofs.OfEnd.{bare_ordered}
 use Rattle.rlc_tx.proofs.Served.{InOrder, found_none, window_any}
 use Rattle.rlc_tx.specs.Ends.{near_of, set_by}
 use Rattle.rlc_tx.specs.Slots.{sdu_of}
-use Rattle.rlc_tx.specs.Soughts.{first_in, exhausted_in}
+use Rattle.rlc_tx.specs.Searches.{first_in, exhausted_in}
 use Rattle.rlc_tx.specs.Windows.{sdus_in, bare, Untired}
 use Rattle.rlc_tx.specs.declared.ends.NearEnd.{NearEnd}
 use Rattle.rlc_tx.specs.declared.windows.Window.{Window}

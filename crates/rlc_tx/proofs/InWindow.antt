@@ -6,7 +6,7 @@ use Rattle.protocol.specs.Rings.{in_ring}
 use Rattle.protocol.specs.Searching.{seek, update}
 use Rattle.protocol.specs.Sending.{Sdu, Near, gone, none_yet, with_sdus}
 use Rattle.rlc_tx.specs.Slots.{sdu_of}
-use Rattle.rlc_tx.specs.Soughts.{first_in}
+use Rattle.rlc_tx.specs.Searches.{first_in}
 use Rattle.rlc_tx.specs.Windows.{sdu_at, sdus_in, bare, with_sdu, Holds}
 use Rattle.rlc_tx.specs.declared.slots.Slot.{Slot}
 use Rattle.rlc_tx.specs.declared.windows.Window.{Window}
@@ -61,23 +61,17 @@ slot_set slots first next x slot size lo hi window y = ⊎_elim under (λ from. 
 
 module _ (test : ℕ → Bool) (first next : ℕ) (order : first ≤ next) where
   -- it ends at the first that passes
-  pub first_is : (k : ℕ) → first + k < next → ((j : ℕ) → j < k → test (first + j) ≡ false) → test (first + k) ≡ true → first_in test first next ≡ Some (first + k)
-  first_is k in_window before at =
-      cond-true _ _ _ (lt-ltb _ next (omega (arith, here, in_window))) ∙ ap (λ n. Some n) here
+  pub first_is : (k : ℕ) → first ≤ k → k < next → ((x : ℕ) → first ≤ x → x < k → test x ≡ false) → test k ≡ true → first_in test first next ≡ Some k
+  first_is k from to before at = cond-true _ _ _ (lt-ltb _ next (omega (arith, here, to))) ∙ ap (λ n. Some n) here
     where
-      here : seek test (next - first) first ≡ first + k
-      here =
-          seek_is test (next - first) first (first + k) (omega arith) (omega (arith, in_window))
-          (λ j lo hi. ap test (omega (arith, lo)) ∙ before (j - first) (omega (arith, lo, hi))) (λ l. at)
+      here : seek test (next - first) first ≡ k
+      here = seek_is test (next - first) first k from (omega (arith, to)) before (λ l. at)
 
-  pub first_none : ((j : ℕ) → j < next - first → test (first + j) ≡ false) → first_in test first next ≡ None
-  first_none before =
-      cond-false _ _ _ (le-ltb _ next (omega (arith, here, order)))
+  pub first_none : ((x : ℕ) → first ≤ x → x < next → test x ≡ false) → first_in test first next ≡ None
+  first_none before = cond-false _ _ _ (le-ltb _ next (omega (arith, here, order)))
     where
       here : seek test (next - first) first ≡ next
-      here =
-          seek_is test (next - first) first next order (omega (arith, order))
-          (λ j lo hi. ap test (omega (arith, lo)) ∙ before (j - first) (omega (arith, lo, hi))) (λ l. absurd (omega (arith, l, order)))
+      here = seek_is test (next - first) first next order (omega (arith, order)) before (λ l. absurd (omega (arith, l, order)))
 
 -- a slot more
 pub slot_given : (slots : List Slot) (first next : ℕ) (slot : Slot) → length slots ≡ 16 → first ≤ next → next < first + 16

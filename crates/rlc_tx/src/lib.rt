@@ -3,13 +3,11 @@
 
 mod ends;
 mod giving;
-mod marking;
 mod marks;
 mod planning;
 mod plans;
 mod reporting;
 mod slots;
-mod soughts;
 mod spending;
 mod ticking;
 mod touches;

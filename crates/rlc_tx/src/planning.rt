@@ -9,7 +9,6 @@ ghost use Rattle.wire.specs.Views.{count_of};
 
 use crate::ends::NearEnd;
 use crate::plans::{Plan, Run};
-use crate::soughts::Sought;
 use wire::Grant;
 
 /// A number of PDUs with one more, which counts if its bytes are new; none: the limit is reached.
@@ -28,7 +27,7 @@ impl NearEnd {
     fn next_run(&self, grant: usize) -> Option<Run>
         ensures { option_map run_of result ≡ served (near_of self.now) grant }
     {
-        if let Some(count) = self.window.first(Sought::Pending) {
+        if let Some(count) = self.window.first(|_, slot| slot.has_pending()) {
             let (from, size) = self.window.slot(count).pending_run(grant);
             let new = false;
             return Some(Run {
@@ -38,7 +37,7 @@ impl NearEnd {
                 new,
             });
         }
-        let count = self.window.first(Sought::Unsent)?;
+        let count = self.window.first(|_, slot| slot.has_unsent())?;
         let (from, size) = self.window.slot(count).unsent_run(grant);
         let new = true;
         Some(Run {
@@ -65,7 +64,9 @@ impl NearEnd {
         requires { Front (served_as run.new) ((near_of self.now).sdu (count_of run.count)) run.from run.size }
         ensures { result ≡ nothing_to_send (marked (run_of run) (near_of self.now)) }
     {
-        self.window.first(Sought::LeftAfter(run)).is_none()
+        self.window
+            .first(|count, slot| slot.left() > run.size_in(count))
+            .is_none()
     }
 
     /// P: enough PDUs went without one, nothing is left to send, or a poll is owed.

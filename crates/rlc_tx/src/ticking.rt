@@ -5,7 +5,6 @@ ghost use Rattle.protocol.specs.Sending.{highest_sent, considered_all, failed_if
 ghost use Rattle.rlc_tx.specs.Ends.{near_of, set_by};
 
 use crate::ends::NearEnd;
-use crate::soughts::Sought;
 
 impl NearEnd {
     /// All bytes of the highest SDU that was sent and is not acknowledged are to be sent again.
@@ -24,7 +23,7 @@ impl NearEnd {
     {
         if self.polling.t_poll_retransmit.tick() {
             self.polling.owed = true;
-            if self.window.first(Sought::Left).is_none() {
+            if self.window.first(|_, slot| slot.has_left()).is_none() {
                 self.repeat();
             }
         }

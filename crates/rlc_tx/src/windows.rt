@@ -10,7 +10,6 @@ ghost use Rattle.wire.specs.Views.{count_of, missing_of};
 
 use crate::plans::Run;
 use crate::slots::Slot;
-use crate::soughts::Sought;
 use wire::{Missing, Rlc, RlcCount};
 
 /// The number of SDUs that a window holds.
@@ -39,7 +38,7 @@ pub(crate) struct Window {
 impl Window {
     ghost use Rattle.rlc_tx.specs.Plans.{run_of, served_as, Front};
     ghost use Rattle.rlc_tx.specs.Slots.{sdu_of};
-    ghost use Rattle.rlc_tx.specs.Soughts.{passes, Ready, first_in, exhausted_in};
+    ghost use Rattle.rlc_tx.specs.Searches.{GivesAt, IsFirst, exhausted_in};
     ghost use Rattle.rlc_tx.specs.Windows.{bare, sdus_in, with_sdu, Holds};
 
     pub(crate) fn new() -> Window
@@ -85,14 +84,14 @@ impl Window {
         &self.slots[place(count)]
     }
 
-    /// The first SDU that has what is sought.
-    pub(crate) fn first(&self, sought: Sought) -> Option<RlcCount>
-        requires { (x : ℕ) → Ready sought x (sdus_in self.now x) }
-        ensures { option_map count_of result ≡ first_in (λ x. passes sought x (sdus_in self.now x)) (count_of self.now.tx_next_ack) (count_of self.now.tx_next) }
+    /// The first count whose SDU is wanted.
+    pub(crate) fn first<F: Fn(RlcCount, &Slot) -> bool>(&self, wanted: F) -> Option<RlcCount>
+        requires { F.IsAlwaysCallable wanted }
+        ensures { IsFirst (GivesAt F.Fn wanted self.now) self.now (option_map count_of result) }
     {
         for k in 0..self.len() {
             let count = self.count(k);
-            if self.slot(count).passes(sought, count) {
+            if wanted(count, self.slot(count)) {
                 return Some(count);
             }
         }
@@ -103,7 +102,8 @@ impl Window {
     pub(crate) fn top(&self) -> RlcCount
         ensures { count_of result ≡ top_of (bare self.now) }
     {
-        self.first(Sought::Unbegun).unwrap_or(self.tx_next)
+        self.first(|_, slot| !slot.is_begun())
+            .unwrap_or(self.tx_next)
     }
 
     /// The highest count of which a byte was sent and that is not acknowledged.
@@ -124,7 +124,7 @@ impl Window {
     pub(crate) fn is_exhausted(&self, max_retx: u8) -> bool
         ensures { result ≡ exhausted_in max_retx self.now }
     {
-        self.first(Sought::Exhausted { max_retx }).is_some()
+        self.first(|_, slot| slot.is_exhausted(max_retx)).is_some()
     }
 
     /// One SDU more.
@@ -144,7 +144,9 @@ impl Window {
     pub(crate) fn advance(&mut self)
         ensures { bare self.new ≡ advanced (bare self.old) }
     {
-        self.tx_next_ack = self.first(Sought::Unacknowledged).unwrap_or(self.tx_next);
+        self.tx_next_ack = self
+            .first(|_, slot| !slot.is_acknowledged())
+            .unwrap_or(self.tx_next);
     }
 
     /// A run of bytes was sent.

@@ -8,8 +8,7 @@ ghost use Rattle.rlc_tx.specs.Slots.{sdu_of};
 ghost use Rattle.wire.specs.Views.{missing_of};
 
 use super::Slot;
-use crate::marking::replace;
-use crate::marks::Mark;
+use crate::marks::{Mark, replace};
 use wire::Missing;
 
 /// RETX_COUNT after an entry was considered, and whether its report has now changed it: one report does so

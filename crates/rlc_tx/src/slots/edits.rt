@@ -9,8 +9,7 @@ ghost use Rattle.rlc_tx.specs.Slots.{sdu_of};
 ghost use Rattle.wire.specs.Views.{sn_of};
 
 use super::{MAX_SDU, Slot};
-use crate::marking::replace;
-use crate::marks::Mark;
+use crate::marks::{Mark, replace};
 use crate::plans::Run;
 use wire::Sn;
 

@@ -1,14 +1,13 @@
 //! Which bytes of an SDU a grant sends.
 
 ghost use Rattle.std.specs.Prelude.{◌≡◌, ◌+◌, ◌-◌, ◌<◌, true, not, ◌||◌, length, take, drop, if◌then◌else◌, nat_eq};
-ghost use Rattle.protocol.specs.Sending.{has, byte_from, run_from, is_unsent, is_pending, sent_run, exhausted, segment_at};
+ghost use Rattle.protocol.specs.Sending.{has, byte_from, run_from, is_unsent, is_pending, exhausted, segment_at};
 ghost use Rattle.wire.specs.Views.{segment_of};
-ghost use Rattle.rlc_tx.specs.Plans.{run_of, served_as, Front};
+ghost use Rattle.rlc_tx.specs.Plans.{served_as, Front};
 ghost use Rattle.rlc_tx.specs.Slots.{sdu_of};
 
 use super::Slot;
-use crate::marking::count_front;
-use crate::marks::Mark;
+use crate::marks::{Mark, count_front};
 use crate::plans::Run;
 use wire::Segment;
 
@@ -41,7 +40,7 @@ impl Slot {
     }
 
     /// How many of its bytes are to be sent.
-    fn left(&self) -> usize
+    pub(crate) fn left(&self) -> usize
         ensures { result ≡ self.now.pending + (self.now.size - self.now.sent) }
     {
         self.pending + (self.size - self.sent)
@@ -52,14 +51,6 @@ impl Slot {
         ensures { result ≡ has (λ m. is_unsent m || is_pending m) (sdu_of self.now) }
     {
         self.left() > 0
-    }
-
-    /// Something of it is to be sent once this run of its bytes was.
-    pub(crate) fn has_left_after(&self, run: Run) -> bool
-        requires { Front (served_as run.new) (sdu_of self.now) run.from run.size }
-        ensures { result ≡ has (λ m. is_unsent m || is_pending m) (sent_run (run_of run) (sdu_of self.now)) }
-    {
-        self.left() > run.size
     }
 
     fn first_pending(&self) -> usize

@@ -1,12 +1,12 @@
-use Rattle.std.proofs.Common.{◌≡◌, ℕ, ◌-◌, Bool, false, cond, not, ltb, map, ap, ◌∙◌, arith}
+use Rattle.std.proofs.Common.{◌≡◌, ℕ, ◌-◌, Bool, false, cond, not, ltb, map, ap, ◌∙◌, arith, rules}
 use Rattle.protocol.proofs.Seeks.{seek_from, seek_to}
 use Rattle.protocol.specs.Searching.{seek}
 use Rattle.protocol.specs.Sending.{new_near, gone}
-use Rattle.rlc_tx.proofs.Found.{unwrap_mapped, ends}
+use Rattle.rlc_tx.proofs.Found.{found_by, unwrap_mapped, ends}
 use Rattle.rlc_tx.proofs.InWindow.{slid}
 use Rattle.rlc_tx.proofs.windows.Window.advance.Goals as goal
 use Rattle.rlc_tx.specs.Slots.{sdu_of}
-use Rattle.rlc_tx.specs.Soughts.{first_in}
+use Rattle.rlc_tx.specs.Searches.{first_in}
 use Rattle.rlc_tx.specs.Windows.{sdus_in}
 use Rattle.rlc_tx.specs.declared.windows.Window.{Window}
 use Rattle.std.proofs.Common.{Option, unwrap_or}
@@ -28,7 +28,7 @@ start_is w found count is e = ap count_of is ∙ unwrap_mapped count_of found w.
 pub invariant_of-self : goal.invariant_of-self
 invariant_of-self c =
     let w = c.args.self.now in
-    let at = start_is w c.first.result c.unwrap_or-self.result c.unwrap_or-self.ensures c.first.ensures in
+    let at = start_is w c.first.result c.unwrap_or-self.result c.unwrap_or-self.ensures (found_by _ _ w (λ x s. not s.acknowledged) (option_map count_of c.first.result) c.first.ensures (λ count slot b at p. search rules)) in
     let from = seek_from (is_open w) (count_of w.tx_next - count_of w.tx_next_ack) (count_of w.tx_next_ack) in
     let to = seek_to (is_open w) (count_of w.tx_next - count_of w.tx_next_ack) (count_of w.tx_next_ack) in
     record { ordered = omega (arith, at, to, w.ordered); bounded = omega (arith, at, from, w.bounded); few = w.few; ring = w.ring }
@@ -36,7 +36,7 @@ invariant_of-self c =
 pub returns : goal.returns
 returns c =
     let w = c.args.self.now in
-    let at = start_is w c.first.result c.unwrap_or-self.result c.unwrap_or-self.ensures c.first.ensures in
+    let at = start_is w c.first.result c.unwrap_or-self.result c.unwrap_or-self.ensures (found_by _ _ w (λ x s. not s.acknowledged) (option_map count_of c.first.result) c.first.ensures (λ count slot b at p. search rules)) in
     let from = seek_from (is_open w) (count_of w.tx_next - count_of w.tx_next_ack) (count_of w.tx_next_ack) in
     λ i.
     record {

@@ -1,25 +1,24 @@
-use Rattle.std.proofs.Common.{◌≡◌, ℕ, ◌+◌, true, Some, sym, ap, ◌∙◌, subst, arith}
-use Rattle.rlc_tx.proofs.InWindow.{first_is, first_none}
+use Rattle.std.proofs.Common.{◌≡◌, ◌+◌, refl, ap, ◌∙◌, sym, ⊎_elim, arith}
 use Rattle.rlc_tx.proofs.windows.Window.first.Goals as goal
-use Rattle.rlc_tx.specs.Soughts.{passes}
 use Rattle.rlc_tx.specs.Windows.{sdus_in}
+use Rattle.std.proofs.lemmas.Bool.{cases_eq}
 use Rattle.wire.specs.Views.{count_of}
 
-pub returns-then-passes : goal.returns-then-passes
-returns-then-passes c =
-    let w = c.args.self.now in
-    let sdu = sdus_in w in
-    let at : count_of c.count-count.result ≡ count_of w.tx_next_ack + c.loop-k.k = c.count-count.ensures in
-    let passed : passes c.args.sought (count_of c.count-count.result) (sdu (count_of c.count-count.result)) ≡ true =
-    ap (passes c.args.sought (count_of c.count-count.result)) (sym c.slot.ensures) ∙ sym c.if-passes.ensures in
-    ap (λ (n : ℕ). Some n) at
-    ∙ sym
-    (first_is (λ x. passes c.args.sought x (sdu x)) _ _ w.ordered c.loop-k.k (omega (arith, c.loop-k-test.true, c.len-k-end.ensures)) c.loop-k.invariant
-    (subst (λ x. passes c.args.sought x (sdu x) ≡ true) at passed))
+pub returns-then-wanted : goal.returns-then-wanted
+returns-then-wanted g c =
+    record {
+      holds = record { from = omega (arith, c.count-count.ensures); to = omega (arith, c.count-count.ensures, c.loop-k-test.true, c.len-k-end.ensures) };
+      here = record { count = c.count-count.result; is = refl; slot = c.slot.result; shows = c.slot.ensures; says = record { met = c.if-wanted.ensures } };
+      before = λ x held l. c.loop-k.invariant x held.from (omega (arith, l, c.count-count.ensures));
+    }
+
+pub loop-k-preserved : goal.loop-k-preserved
+loop-k-preserved g c x from to =
+    ⊎_elim
+    (λ e.
+    let at : count_of c.count-count.result ≡ x = c.count-count.ensures ∙ sym e in
+    record { count = c.count-count.result; is = at; slot = c.slot.result; shows = c.slot.ensures ∙ ap (sdus_in c.args.self.now) at; says = record { met = c.if-wanted.ensures } })
+    (λ d. c.loop-k.invariant x from (omega (arith, to, d))) (cases_eq x (count_of c.args.self.now.tx_next_ack + c.loop-k.k))
 
 pub returns : goal.returns
-returns c =
-    let w = c.args.self.now in
-    sym
-    (first_none (λ x. passes c.args.sought x (sdus_in w x)) _ _ w.ordered
-    (λ j l. c.loop-k.invariant j (omega (arith, l, c.loop-k-test.false, c.len-k-end.ensures))))
+returns g c x held = c.loop-k.invariant x held.from (omega (arith, held.to, c.loop-k-test.false, c.len-k-end.ensures))

@@ -1,5 +1,5 @@
 use Rattle.std.proofs.Common.{◌≡◌, ◌++◌, map, take, drop, count_by}
-use Rattle.rlc_tx.proofs.marking.replace.Given as goal
+use Rattle.rlc_tx.proofs.marks.replace.Given as goal
 use Rattle.rlc_tx.specs.Marks.{same, replaced}
 
 abbrev pub invariant-loop-mark : goal.invariant-loop-mark
