@@ -1,7 +1,9 @@
 -- What a slot's type says of its marks.
-use Rattle.std.proofs.Common.{◌≡◌, ℕ, ◌+◌, ◌≤◌, Bool, true, false, List, length, take, Some, None, Option, refl, arith}
+use Rattle.std.proofs.Common.{◌≡◌, ℕ, ◌+◌, ◌≤◌, Bool, true, false, List, length, take, Some, None, Option, refl, ap, ◌∙◌, arith}
+use Rattle.protocol.specs.Sending as near
 use Rattle.rlc_tx.proofs.Marked.{Marked}
 use Rattle.rlc_tx.specs.Marks.{is_pending, Begun, Unbegun, NoneBelow, pending_in, bounded}
+use Rattle.rlc_tx.specs.Plans.{run_at}
 use Rattle.rlc_tx.specs.declared.marks.Mark.{Mark}
 use Rattle.rlc_tx.specs.declared.slots.Slot.{Slot}
 use Rattle.std.proofs.lemmas.List.{length-take-le}
@@ -54,6 +56,13 @@ facts stored m few =
       none_below = m.none_below;
       few = few;
     }
+
+-- the first run of such bytes
+pub run_is : (new : Bool) (test : near.Mark → Bool) (s : near.Sdu) (grant count from size : ℕ) → from ≡ near.byte_from test s 0 → size ≡ near.run_from test s from grant
+    → ◌≡◌ {A = near.Run} (record { count = count; from = from; size = size; new = new }) (run_at new test s grant count)
+run_is new test s grant count from size first long =
+    let most = long ∙ ap (λ f. near.run_from test s f grant) first in
+    λ i. record { count = count; from = first i; size = most i; new = new }
 
 -- more may be pending
 pub bounded_more : (acknowledged : Bool) (few many : ℕ) (retx_count : Option ℕ) → few ≤ many → bounded acknowledged few retx_count ≡ true → bounded acknowledged many retx_count ≡ true

@@ -10,6 +10,11 @@ use Rattle.wire.specs.Views.{count_of}
 abbrev pub run_of : Run → protocol.Run
 run_of r = record { count = count_of r.count; from = r.from; size = r.size; new = r.new }
 
+-- the first run of such bytes of an SDU that a grant holds
+abbrev pub run_at : Bool → (protocol.Mark → Bool) → protocol.Sdu → (grant count : ℕ) → protocol.Run
+run_at new test s grant count =
+    record { count = count; from = protocol.byte_from test s 0; size = protocol.run_from test s (protocol.byte_from test s 0) grant; new = new }
+
 -- a run, and P
 abbrev pub plan_of : Option Plan → Option (protocol.Run × Bool)
 plan_of plan = option_map (λ p. (run_of p.run, p.poll)) plan

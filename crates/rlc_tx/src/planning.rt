@@ -28,24 +28,10 @@ impl NearEnd {
         ensures { option_map run_of result ≡ served (near_of self.now) grant }
     {
         if let Some(count) = self.window.first(|_, slot| slot.has_pending()) {
-            let (from, size) = self.window.slot(count).pending_run(grant);
-            let new = false;
-            return Some(Run {
-                count,
-                from,
-                size,
-                new,
-            });
+            return Some(self.window.slot(count).pending_run(count, grant));
         }
         let count = self.window.first(|_, slot| slot.has_unsent())?;
-        let (from, size) = self.window.slot(count).unsent_run(grant);
-        let new = true;
-        Some(Run {
-            count,
-            from,
-            size,
-            new,
-        })
+        Some(self.window.slot(count).unsent_run(count, grant))
     }
 
     /// PDU_WITHOUT_POLL with one PDU more, which counts if its bytes are new; none: pollPDU is reached.

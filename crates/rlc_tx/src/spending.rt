@@ -55,12 +55,8 @@ impl NearEnd {
                 t_poll_retransmit: Timer::start(Some(self.settings.t_poll_retransmit)),
             };
         }
-        let pdu_without_poll = match self.without_poll(new) {
-            Some(without) => without,
-            None => 0,
-        };
         Polling {
-            pdu_without_poll,
+            pdu_without_poll: self.without_poll(new).unwrap_or(0),
             ..self.polling
         }
     }
@@ -75,8 +71,7 @@ impl NearEnd {
     {
         let Plan { run, poll } = plan;
         self.mark(run);
-        let polling = self.polled(poll, run.new);
-        self.polling = polling;
+        self.polling = self.polled(poll, run.new);
     }
 
     /// Sends the PDU that the grant allows, if there is one: it is written at the buffer's start, and its

@@ -9,9 +9,9 @@ pub returns : goal.returns
 returns c =
     let n = c.args.self.now in
     let run = run_of c.args.plan.run in
-    let polling = c.polled-polling.result in
+    let polling = c.polled-self.result in
     let polls-are =
-    c.polled-polling.ensures ∙ ap (λ s. polled_by (settings_of s) c.args.plan.poll run.new (near_of c.mark.new.self)) c.mark.ensures.set
+    c.polled-self.ensures ∙ ap (λ s. polled_by (settings_of s) c.args.plan.poll run.new (near_of c.mark.new.self)) c.mark.ensures.set
     ∙ ap (polled_by (set_by n) c.args.plan.poll run.new) c.mark.ensures.near
     ∙ ap (λ poll. polled_by (set_by n) poll run.new (marked run (near_of n))) c.requires.poll in
     record {
