@@ -8,8 +8,8 @@ use Rattle.rlc_tx.proofs.Planned.{same_some, none_some}
 use Rattle.rlc_tx.specs.Considered.{considered_next}
 use Rattle.rlc_tx.specs.Touches.{counted_of, touch_at, named_sdu, named_touch, entered, touched}
 use Rattle.rlc_tx.specs.Windows.{sdus_in, bare, Holds}
-use Rattle.rlc_tx.specs.declared.touches.Touch.{Touch}
-use Rattle.rlc_tx.specs.declared.touches.Touch.TheVariants.{Unnamed}
+use Rattle.rlc_tx.specs.declared.reporting.Touch.{Touch}
+use Rattle.rlc_tx.specs.declared.reporting.Touch.TheVariants.{Unnamed}
 use Rattle.rlc_tx.specs.declared.windows.Window.{Window}
 use Rattle.std.proofs.lemmas.Bool.{cases_eq, cond-true, cond-false, lt-ltb, eq-eqb, ne_eqb, and_from, and_left, and_right, not_from_true, not_from_false}
 use Rattle.wire.specs.Views.{count_of, held}

@@ -18,5 +18,6 @@ pub mod Ticked
 pub mod Entered
 pub mod Stages
 pub mod Progress
+pub mod Touched
 pub mod Settled
 pub mod Reported

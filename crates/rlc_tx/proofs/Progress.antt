@@ -8,8 +8,8 @@ use Rattle.rlc_tx.proofs.Stages.{considered_again, counted_again}
 use Rattle.rlc_tx.specs.Considered.{counts, considered_next, counted_by}
 use Rattle.rlc_tx.specs.Touches.{named_of, counted_of, counted_if, touch_at, named_touch, entered, touched}
 use Rattle.rlc_tx.specs.Windows.{sdus_in, bare, Holds}
-use Rattle.rlc_tx.specs.declared.touches.Touch.{Touch}
-use Rattle.rlc_tx.specs.declared.touches.Touch.TheVariants.{Unnamed}
+use Rattle.rlc_tx.specs.declared.reporting.Touch.{Touch}
+use Rattle.rlc_tx.specs.declared.reporting.Touch.TheVariants.{Unnamed}
 use Rattle.rlc_tx.specs.declared.windows.Window.{Window}
 use Rattle.std.proofs.lemmas.Bool.{both_ways, cond-true, cond-false, lt-ltb, ltb-true, eqb-true}
 use Rattle.wire.specs.Views.{count_of, front}

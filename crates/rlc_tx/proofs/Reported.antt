@@ -7,7 +7,7 @@ use Rattle.rlc_tx.proofs.Settled.{settled_is, settled_retx}
 use Rattle.rlc_tx.specs.Slots.{sdu_of}
 use Rattle.rlc_tx.specs.Touches.{named_of, touch_at, settled_to}
 use Rattle.rlc_tx.specs.Windows.{sdus_in, bare, Holds, Untired}
-use Rattle.rlc_tx.specs.declared.touches.Touch.{Touch}
+use Rattle.rlc_tx.specs.declared.reporting.Touch.{Touch}
 use Rattle.rlc_tx.specs.declared.windows.Window.{Window}
 use Rattle.wire.specs.Views.{count_of}
 

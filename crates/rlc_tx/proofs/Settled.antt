@@ -3,12 +3,21 @@ use Rattle.std.proofs.Common.{◌≡◌, ℕ, ◌+◌, ◌<◌, ◌≤◌, Bool,
 use Rattle.protocol.specs.Pdus.{Entry}
 use Rattle.protocol.specs.Searching.{update}
 use Rattle.protocol.specs.Sending as near
+use Rattle.rlc_tx.proofs.InWindow.{same_sdus}
 use Rattle.rlc_tx.specs.Touches.{named_of, touch_at, settled, settled_to}
-use Rattle.rlc_tx.specs.Windows.{bare, Holds}
-use Rattle.rlc_tx.specs.declared.touches.Touch.{Touch}
+use Rattle.rlc_tx.specs.Windows.{sdus_in, bare, with_sdu, Holds}
+use Rattle.rlc_tx.specs.declared.reporting.Touch.{Touch}
 use Rattle.rlc_tx.specs.declared.windows.Window.{Window}
 use Rattle.std.proofs.lemmas.Bool.{cases_lt, cases_eq, cond-true, cond-false, lt-ltb, le-ltb, le-leb, lt-leb, eq-eqb, ne_eqb, and_from, and_left, and_right}
 use Rattle.wire.specs.Views.{count_of}
+
+-- an SDU that is not acknowledged stays
+pub unsettled : (w : Window) (x : ℕ) (below named : Bool) → (below && (not named && not (near.has near.is_unsent (sdus_in w x)))) ≡ false
+    → bare w ≡ with_sdu (bare w) x (settled below named (sdus_in w x))
+unsettled w x below named stays =
+    same_sdus (bare w) _ _
+    (λ y.
+    ⊎_elim (λ (same : y ≡ x). sym (cond-true _ _ _ (eq-eqb y x same) ∙ cond-false _ _ _ stays ∙ ap (sdus_in w) (sym same))) (λ d. sym (cond-false _ _ _ (ne_eqb y x d))) (cases_eq y x))
 
 -- one more
 pub settled_more : (first k ack count : ℕ) (touches : List Touch) (sdu after : ℕ → near.Sdu) (t : Touch) → count ≡ first + k → t ≡ touch_at touches count

@@ -4,8 +4,8 @@ use Rattle.protocol.specs.Pdus.{Entry}
 use Rattle.protocol.specs.Rings.{in_ring}
 use Rattle.protocol.specs.Sending.{Sdu, Near, tx_count, names_byte, has, is_unsent, acknowledge}
 use Rattle.rlc_tx.specs.Considered.{considered_next, counted_by}
-use Rattle.rlc_tx.specs.declared.touches.Touch.{Touch}
-use Rattle.rlc_tx.specs.declared.touches.Touch.TheVariants.{Unnamed, Named, Counted}
+use Rattle.rlc_tx.specs.declared.reporting.Touch.{Touch}
+use Rattle.rlc_tx.specs.declared.reporting.Touch.TheVariants.{Unnamed, Named, Counted}
 
 abbrev pub named_of : Touch → Bool
 named_of Unnamed = false

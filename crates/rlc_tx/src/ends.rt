@@ -1,12 +1,21 @@
-//! The near end's state.
+//! The near end.
 
-ghost use Rattle.std.specs.Prelude.{◌≡◌, ◌≤◌, false};
+ghost use Rattle.std.specs.Prelude.{◌≡◌, ◌+◌, ◌<◌, ◌≤◌, false, length};
+ghost use Rattle.protocol.specs.Refusals.{at as fault_at};
+ghost use Rattle.protocol.specs.Sending.{new_near, gives, given, highest_sent, considered_all, failed_if, tick_near};
 ghost use Rattle.rlc_tx.specs.Windows.{Untired, sdus_in};
 ghost use Rattle.wire.specs.Views.{count_of};
 
+use crate::slots::Slot;
 use crate::windows::Window;
 use timers::{Settings, Timer};
-use wire::{PdcpCount, RlcCount};
+use wire::{Fault, Pdcp, PdcpCount, Refusal, Rlc, RlcCount};
+
+/// The packets that a link accepts in all.
+const PACKET_LIMIT: u32 = 1_000_000;
+
+/// The longest packet.
+const MAX_PACKET: usize = 500;
 
 /// What the near end keeps for its polls.
 #[derive(Clone, Copy)]
@@ -38,4 +47,100 @@ pub struct NearEnd {
     ghost numbers: { settings.max_retx ≤ 255 },
     ghost together: { count_of pdcp_tx_next ≡ count_of window.tx_next },
     ghost untired: { (failed ≡ false → Untired settings.max_retx (sdus_in window)) },
+}
+
+/// Refused, at no place in particular.
+pub(crate) fn refused(refusal: Refusal) -> Fault
+    ensures { result ≡ fault_at refusal 0 }
+{
+    Fault { refusal, place: 0 }
+}
+
+/// The COUNT after this one.
+fn next(count: PdcpCount) -> PdcpCount
+    requires { count_of count < 1000000 }
+    ensures { count_of result ≡ count_of count + 1 }
+{
+    match count.plus(1) {
+        Some(next) => next,
+        None => count,
+    }
+}
+
+impl NearEnd {
+    ghost use Rattle.rlc_tx.specs.Ends.{near_of, set_by, given_by, count_answered};
+
+    pub fn new(settings: Settings) -> NearEnd
+        ensures near { near_of result ≡ new_near }
+        ensures set { result.settings ≡ settings }
+    {
+        NearEnd {
+            settings,
+            pdcp_tx_next: PdcpCount::first(Pdcp),
+            window: Window::new(),
+            polling: Polling {
+                poll_sn: RlcCount::first(Rlc),
+                pdu_without_poll: 0,
+                owed: false,
+                t_poll_retransmit: Timer::Stopped,
+            },
+            failed: false,
+        }
+    }
+
+    /// The packet becomes the next SDU, under the COUNT that is answered.
+    pub fn give(&mut self, packet: &[u8]) -> Result<PdcpCount, Fault>
+        ensures near { (count_answered result, near_of self.new) ≡ given_by (gives packet.now (near_of self.old)) (near_of self.old) }
+        ensures set { self.new.settings ≡ self.old.settings }
+    {
+        if self.failed {
+            return Err(refused(Refusal::LinkFailed));
+        }
+        if packet.is_empty() || packet.len() > MAX_PACKET {
+            return Err(refused(Refusal::PacketLength));
+        }
+        if self.window.is_full() {
+            return Err(refused(Refusal::WindowFull));
+        }
+        if self.pdcp_tx_next.value() >= PACKET_LIMIT {
+            return Err(refused(Refusal::PacketLimit));
+        }
+        Ok(self.accept(packet))
+    }
+
+    fn accept(&mut self, packet: &[u8]) -> PdcpCount
+        requires short { length packet.now ≤ 500 }
+        requires room { (near_of self.old).tx_next < (near_of self.old).tx_next_ack + 16 }
+        requires few { (near_of self.old).pdcp_tx_next < 1000000 }
+        ensures count { count_of result ≡ (near_of self.old).pdcp_tx_next }
+        ensures near { near_of self.new ≡ given packet.now (near_of self.old) }
+        ensures set { self.new.settings ≡ self.old.settings }
+    {
+        let count = self.pdcp_tx_next;
+        self.window.push(Slot::new(count.sn(), packet));
+        self.pdcp_tx_next = next(count);
+        count
+    }
+
+    /// All bytes of the highest SDU that was sent and is not acknowledged are to be sent again.
+    fn repeat(&mut self)
+        ensures near { near_of self.new ≡ failed_if (set_by self.old) (considered_all (highest_sent (near_of self.old)) (near_of self.old)) }
+        ensures set { self.new.settings ≡ self.old.settings }
+    {
+        self.window.repeat_highest();
+        self.failed |= self.window.is_exhausted(self.settings.max_retx);
+    }
+
+    /// One Tick: when t-PollRetransmit runs out a poll is owed, and something to send it with.
+    pub fn tick(&mut self)
+        ensures near { near_of self.new ≡ tick_near (set_by self.old) (near_of self.old) }
+        ensures set { self.new.settings ≡ self.old.settings }
+    {
+        if self.polling.t_poll_retransmit.tick() {
+            self.polling.owed = true;
+            if self.window.first(|_, slot| slot.has_left()).is_none() {
+                self.repeat();
+            }
+        }
+    }
 }

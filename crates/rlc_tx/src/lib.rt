@@ -2,15 +2,12 @@
 #![tactic(auto)]
 
 mod ends;
-mod giving;
 mod marks;
 mod planning;
 mod plans;
 mod reporting;
 mod slots;
 mod spending;
-mod ticking;
-mod touches;
 mod windows;
 
 pub use ends::{NearEnd, Report};

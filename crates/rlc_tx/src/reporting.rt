@@ -10,31 +10,22 @@ ghost use Rattle.rlc_tx.specs.Touches.{named_sdu};
 ghost use Rattle.rlc_tx.specs.Windows.{sdus_in, bare, with_sdu, Holds};
 ghost use Rattle.wire.specs.Views.{count_of, missing_of, entry_of, entries_of};
 
-use crate::ends::{NearEnd, Report};
-use crate::giving::refused;
-use crate::touches::Touch;
+use crate::ends::{NearEnd, Report, refused};
 use crate::windows::{Window, place};
 use wire::{End, Entries, Entry, Fault, Pdu, Reader, Refusal, RlcCount};
 
+/// What the entries of a report read so far say of an SDU.
+#[derive(Clone, Copy, PartialEq, Eq)]
+enum Touch {
+    /// None names it.
+    Unnamed,
+    /// One names it.
+    Named,
+    /// One has changed its RETX_COUNT, which one report does at most once.
+    Counted,
+}
+
 impl Touch {
-    fn is_counted(self) -> bool
-        ensures { result ≡ counted_of self }
-    {
-        match self {
-            Touch::Counted => true,
-            Touch::Unnamed | Touch::Named => false,
-        }
-    }
-
-    fn is_named(self) -> bool
-        ensures { result ≡ named_of self }
-    {
-        match self {
-            Touch::Unnamed => false,
-            Touch::Named | Touch::Counted => true,
-        }
-    }
-
     /// Named, by an entry with which RETX_COUNT has changed or not.
     fn named(counted: bool) -> Touch
         ensures { result ≡ counted_if counted }
@@ -57,7 +48,7 @@ impl Window {
         if self.slot(count).is_acknowledged() {
             return Touch::Named;
         }
-        let counted = self.consider(count, entry.missing, touch.is_counted());
+        let counted = self.consider(count, entry.missing, touch == Touch::Counted);
         Touch::named(counted)
     }
 
@@ -95,8 +86,9 @@ impl Window {
         ensures { bare self.new ≡ with_sdu (bare self.old) (count_of count) (settled (nat_lt (count_of count) (count_of ack)) (named_of touch) (sdus_in self.old (count_of count))) }
     {
         let below = count.value() < ack.value();
+        let named = touch != Touch::Unnamed;
         let unsent = self.slot(count).has_unsent();
-        if below && !touch.is_named() && !unsent {
+        if below && !named && !unsent {
             self.acknowledge(count);
         }
     }

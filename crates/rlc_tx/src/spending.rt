@@ -8,8 +8,7 @@ ghost use Rattle.rlc_tx.specs.Ends.{near_of, set_by, polling_of, spent_by, polle
 ghost use Rattle.rlc_tx.specs.Plans.{run_of, Serves};
 ghost use Rattle.wire.specs.Views.{count_of};
 
-use crate::ends::{NearEnd, Polling};
-use crate::giving::refused;
+use crate::ends::{NearEnd, Polling, refused};
 use crate::plans::{Plan, Run};
 use timers::Timer;
 use wire::{Fault, Grant, Header, Refusal, write_amd};

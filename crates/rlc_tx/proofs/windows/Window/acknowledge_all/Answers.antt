@@ -5,7 +5,7 @@ use Rattle.rlc_tx.proofs.Settled.{settled_more}
 use Rattle.rlc_tx.proofs.windows.Window.acknowledge_all.Goals as goal
 use Rattle.rlc_tx.specs.Touches.{named_of, settled, settled_to}
 use Rattle.rlc_tx.specs.Windows.{sdus_in, bare, with_sdu}
-use Rattle.rlc_tx.specs.declared.touches.Touch.TheVariants.{Unnamed}
+use Rattle.rlc_tx.specs.declared.reporting.Touch.TheVariants.{Unnamed}
 use Rattle.std.proofs.Common.{ltb}
 use Rattle.wire.specs.Views.{count_of}
 

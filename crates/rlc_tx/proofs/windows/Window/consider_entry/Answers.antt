@@ -5,7 +5,7 @@ use Rattle.rlc_tx.proofs.InWindow.{same_sdus}
 use Rattle.rlc_tx.proofs.windows.Window.consider_entry.Goals as goal
 use Rattle.rlc_tx.specs.Touches.{counted_of, touch_at, named_touch}
 use Rattle.rlc_tx.specs.Windows.{sdus_in, bare, Holds}
-use Rattle.rlc_tx.specs.declared.touches.Touch.TheVariants.{Unnamed}
+use Rattle.rlc_tx.specs.declared.reporting.Touch.TheVariants.{Unnamed}
 use Rattle.std.proofs.lemmas.List.{length-set}
 use Rattle.wire.specs.Views.{count_of, entry_of}
 
