@@ -1,7 +1,9 @@
 //! Why a call is refused, and where.
 
 ghost use Rattle.std.specs.Prelude.{◌≡◌};
-ghost use Rattle.protocol.specs.Refusals.{number, layer};
+ghost use Rattle.protocol.specs.Refusals.{number, layer, at};
+
+use std::fmt;
 
 /// The end of the link that reads a PDU.
 #[derive(Clone, Copy)]
@@ -57,6 +59,16 @@ pub enum Refusal {
 }
 
 impl Refusal {
+    /// This refusal, of the byte at `place`.
+    pub fn at(self, place: usize) -> Fault
+        ensures { result ≡ at self place }
+    {
+        Fault {
+            refusal: self,
+            place,
+        }
+    }
+
     pub fn number(self) -> u8
         ensures { result ≡ number self }
     {
@@ -83,4 +95,46 @@ impl Refusal {
 pub struct Fault {
     pub refusal: Refusal,
     pub place: usize,
+}
+
+impl fmt::Display for End {
+    fn fmt<W: fmt::Write>(&self, f: &mut fmt::Formatter<W>) -> fmt::Result {
+        f.write_str(match self {
+            End::Near => "near",
+            End::Far => "far",
+        })
+    }
+}
+
+impl fmt::Display for Layer {
+    fn fmt<W: fmt::Write>(&self, f: &mut fmt::Formatter<W>) -> fmt::Result {
+        f.write_str(match self {
+            Layer::Rlc => "RLC",
+            Layer::Pdcp => "PDCP",
+            Layer::Link => "link",
+        })
+    }
+}
+
+impl fmt::Display for Refusal {
+    fn fmt<W: fmt::Write>(&self, f: &mut fmt::Formatter<W>) -> fmt::Result {
+        f.write_str(match self {
+            Refusal::LinkFailed => "the link has failed",
+            Refusal::PacketLength => "a packet's length is outside 1 to 500",
+            Refusal::WindowFull => "the transmitting window has no room",
+            Refusal::PacketLimit => "all packets that a link may carry were accepted",
+            Refusal::GrantSize => "a grant's size is outside 5 to 512",
+            Refusal::ShortBuffer => "the buffer is too short",
+            Refusal::PacketDue => "a packet waits to be collected",
+            Refusal::WrongKind => "empty, or of a kind that this end does not read",
+            Refusal::Malformed => "it ends too early or too late",
+            Refusal::Offset => "SO is 0, or the data passes byte 501",
+            Refusal::EndClash => "it contradicts what is known of the SDU's end",
+            Refusal::InvalidEntry => "an entry is invalid",
+            Refusal::NotPdcpData => "too short, or no PDCP data",
+            Refusal::CountRange => "the COUNT is out of range",
+            Refusal::ShortCollect => "the buffer is shorter than the packet",
+            Refusal::Setting => "a setting is out of range",
+        })
+    }
 }

@@ -1,12 +1,14 @@
 //! The rules of the link as definitions (`specs/`): formats, numbers, refusals, airs, both ends, PDCP, the
 //! calls and series of calls; their laws, and the theorem that they deliver.
 //!
-//! The only code is the vocabulary that definitions and code share: who reads, and what a refusal is.
+//! The only code is the vocabulary that definitions and code share: who reads, what a refusal is, and the
+//! limits of a link.
 //! Each law stands on the contract of a small function, so that the crate is refused without its proof.
 #![tactic(auto)]
 
 mod faults;
 mod laws;
+mod limits;
 
 pub use faults::{End, Fault, Layer, Refusal};
 pub use laws::{
@@ -15,3 +17,4 @@ pub use laws::{
     reserved_bits_are_not_read, sn_stands_for_one_count, sn_stands_for_one_pdcp_count,
     worked_examples, worked_series, written_pdu_reads_back,
 };
+pub use limits::{MAX_PACKET, MAX_SDU, PACKET_LIMIT, WINDOW_SIZE};

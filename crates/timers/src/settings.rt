@@ -21,7 +21,7 @@ pub struct Settings {
 fn is_timer(n: u16) -> bool
     ensures { result ≡ between 1 10000 n }
 {
-    n >= 1 && n <= 10_000
+    (1..=10_000).contains(&n)
 }
 
 impl Settings {
@@ -29,20 +29,11 @@ impl Settings {
     pub fn in_range(self) -> bool
         ensures { result ≡ in_range (settings_of self) }
     {
-        let poll_pdu = match self.poll_pdu {
-            Some(n) => n >= 1,
-            None => true,
-        };
-        let t_reordering = match self.t_reordering {
-            Some(n) => is_timer(n),
-            None => true,
-        };
-        poll_pdu
-            && self.max_retx >= 1
-            && self.max_retx <= 32
+        self.poll_pdu.is_none_or(|n| n >= 1)
+            && (1..=32).contains(&self.max_retx)
             && is_timer(self.t_poll_retransmit)
             && is_timer(self.t_reassembly)
             && is_timer(self.t_status_prohibit)
-            && t_reordering
+            && self.t_reordering.is_none_or(is_timer)
     }
 }

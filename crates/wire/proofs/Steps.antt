@@ -8,7 +8,9 @@ use Rattle.protocol.specs.Refusals.{at, unless}
 use Rattle.protocol.specs.declared.faults.Fault.{Fault}
 use Rattle.protocol.specs.declared.faults.Refusal.TheVariants.{Malformed, InvalidEntry}
 use Rattle.std.proofs.lemmas.Bool.{cond-true, cond-false, ltb-false, le-ltb}
-use Rattle.wire.specs.Views.{Raw, found_at, noted, checked_entries}
+use Rattle.std.specs.Bool.{then_some}
+use Rattle.std.specs.Option.{option_or}
+use Rattle.wire.specs.Views.{Raw, found_at, checked_entries}
 
 abbrev raw_at : Bytes → Raw
 raw_at bytes = record { entry = entry_of bytes; size = entry_length bytes; e1 = e1_of bytes; e3 = e3_of bytes }
@@ -55,6 +57,10 @@ walked_start ack_sn e1 pdu h =
       whole = ap (λ n. along whole_entries e1 n (drop 3 pdu)) place;
       valid = ap (λ n. along (valid_entries ack_sn) e1 n (drop 3 pdu)) place;
     }
+
+-- the place of the first invalid entry so far, once this one was looked at
+abbrev pub noted : Option ℕ → Bool → ℕ → Option ℕ
+noted invalid fine here = option_or invalid (then_some (not fine) here)
 
 chosen : (fine : Bool) (here : ℕ) (later : Option Fault) → cond fine later (Some (at InvalidEntry here)) ≡ first_of (noted None fine here) later
 chosen true here later = refl

@@ -1,44 +1,23 @@
 -- What the types of this crate stand for.
-use Rattle.std.specs.Prelude.{◌≡◌, ℕ, ◌%◌, ◌^◌, Bool, true, false, cond, List, [], ◌∷◌, length, drop, Some, None, Ok, Err, Option, Result, nat_lt}
-use Rattle.protocol.specs.Numbers.{sn_modulus}
+use Rattle.std.specs.Prelude.{◌≡◌, ℕ, Bool, cond, List, [], length, drop, Some, None, Ok, Err, Option, Result, nat_le, nat_lt}
 use Rattle.protocol.specs.Pdus as protocol
-use Rattle.protocol.specs.Bytes.{Bytes}
+use Rattle.protocol.specs.Bytes.{Bytes, word}
 use Rattle.protocol.specs.Reading as reading
-use Rattle.protocol.specs.Refusals.{unless}
+use Rattle.protocol.specs.Refusals.{at, unless}
 use Rattle.protocol.specs.declared.faults.Fault.{Fault}
+use Rattle.protocol.specs.declared.faults.Refusal.TheVariants.{Malformed}
+use Rattle.wire.specs.Counts.{sn_of}
 use Rattle.wire.specs.declared.entries.Found.{Found}
-use Rattle.wire.specs.declared.counts.Count.{Count}
-use Rattle.wire.specs.declared.permission.Grant.{Grant}
-use Rattle.wire.specs.declared.numbers.Sn.{Sn}
-use Rattle.wire.specs.declared.pdus.Entries.{Entries}
+use Rattle.wire.specs.declared.entries.Entries.{Entries}
 use Rattle.wire.specs.declared.pdus.Entry.{Entry}
 use Rattle.wire.specs.declared.pdus.Missing.{Missing}
 use Rattle.wire.specs.declared.pdus.Missing.TheVariants.{Every, Span}
 use Rattle.wire.specs.declared.pdus.Part.{Part}
 use Rattle.wire.specs.declared.pdus.Pdu.{Pdu}
 use Rattle.wire.specs.declared.pdus.Pdu.TheVariants as read
-use Rattle.wire.specs.declared.writing.Header.{Header}
-use Rattle.wire.specs.declared.writing.Segment.{Segment}
-use Rattle.wire.specs.declared.writing.Segment.TheVariants.{Whole, First, Middle, Last}
-
-abbrev pub sn_of : Sn → ℕ
-sn_of sn = sn.value % sn_modulus
-
-abbrev pub count_of : {L : Type 0} → Count L → ℕ
-count_of count = count.value
-
--- a count, where 32 bits hold it
-abbrev pub held : ℕ → Option ℕ
-held count = cond (nat_lt count (2 ^ 32)) (Some count) None
-
-abbrev pub held_if : Option ℕ → Option ℕ
-held_if None = None
-held_if (Some count) = held count
-
--- the size of a grant that was opened
-abbrev pub granted : Result Grant Fault → Result ℕ Fault
-granted (Ok grant) = Ok grant.size
-granted (Err fault) = Err fault
+use Rattle.wire.specs.declared.pdus.Header.{Header}
+use Rattle.wire.specs.declared.pdus.Segment.{Segment}
+use Rattle.wire.specs.declared.pdus.Segment.TheVariants.{Whole, First, Middle, Last}
 
 abbrev pub missing_of : Missing → protocol.Missing
 missing_of Every = protocol.every
@@ -63,12 +42,6 @@ found_at bytes =
     cond (nat_lt (length bytes) (reading.entry_length bytes)) None
     (Some (record { entry = reading.entry_of bytes; size = reading.entry_length bytes; e1 = reading.e1_of bytes; e3 = reading.e3_of bytes }))
 
--- the place of the first invalid entry so far, once this one was looked at
-abbrev pub noted : Option ℕ → Bool → ℕ → Option ℕ
-noted (Some place) fine here = Some place
-noted None true here = None
-noted None false here = Some here
-
 -- what is found wrong with the entries after the header of a status report, if anything
 abbrev pub checked_entries : ℕ → Bool → Bytes → Result (Unit {0}) Fault
 checked_entries ack_sn e1 bytes =
@@ -78,35 +51,6 @@ checked_entries ack_sn e1 bytes =
 -- the entries that are to come
 abbrev pub entries_of : Entries → List protocol.Entry
 entries_of c = reading.along reading.listing c.more 3 c.rest.now
-
--- a list's first element, if any, and the others
-abbrev pub front : {A : Type 0} → List A → Option A × List A
-front [] = (None, [])
-front (x ∷ xs) = (Some x, xs)
-
-abbrev pub pdu_of : Pdu → protocol.Pdu
-pdu_of (read.Whole poll sn part) = protocol.amd (record { poll = poll; sn = sn_of sn; segment = protocol.whole; payload = part.bytes.now })
-pdu_of (read.First poll sn part) = protocol.amd (record { poll = poll; sn = sn_of sn; segment = protocol.first; payload = part.bytes.now })
-pdu_of (read.Middle poll sn so part) = protocol.amd (record { poll = poll; sn = sn_of sn; segment = protocol.middle so; payload = part.bytes.now })
-pdu_of (read.Last poll sn so part) = protocol.amd (record { poll = poll; sn = sn_of sn; segment = protocol.last so; payload = part.bytes.now })
-pdu_of (read.Status ack_sn entries) = protocol.status (sn_of ack_sn) (entries_of entries)
-
-abbrev pub read_of : Result Pdu Fault → Result protocol.Pdu Fault
-read_of (Ok pdu) = Ok (pdu_of pdu)
-read_of (Err fault) = Err fault
-
--- a part of these bytes: all from `place` on
-abbrev pub Begins : Bytes → ℕ → Part → Type 0
-Begins bytes place part = (part.place ≡ place) × (part.bytes.now ≡ drop place bytes)
-
--- the data field of what was read stands behind the header
-abbrev pub Placed : Bytes → Result Pdu Fault → Type 0
-Placed bytes (Ok (read.Whole poll sn part)) = Begins bytes 2 part
-Placed bytes (Ok (read.First poll sn part)) = Begins bytes 2 part
-Placed bytes (Ok (read.Middle poll sn so part)) = Begins bytes 4 part
-Placed bytes (Ok (read.Last poll sn so part)) = Begins bytes 4 part
-Placed bytes (Ok (read.Status ack_sn entries)) = Unit {0}
-Placed bytes (Err fault) = Unit {0}
 
 abbrev pub segment_of : Segment → protocol.Segment
 segment_of Whole = protocol.whole
@@ -120,3 +64,50 @@ amd_of h bytes = record { poll = h.poll; sn = sn_of h.sn; segment = segment_of h
 
 abbrev pub header_bytes : Header → Bytes
 header_bytes h = protocol.encode_amd (amd_of h [])
+
+-- the SO of a middle or a last segment
+abbrev pub so_of : Segment → Option ℕ
+so_of Whole = None
+so_of First = None
+so_of (Middle so) = Some so
+so_of (Last so) = Some so
+
+-- how many bytes stand before the data
+abbrev pub header_length : Segment → ℕ
+header_length Whole = 2
+header_length First = 2
+header_length (Middle so) = 4
+header_length (Last so) = 4
+
+-- which segment the bytes of an AMD PDU carry
+abbrev pub segment_in : Bytes → Result protocol.Segment Fault
+segment_in bytes =
+    cond (nat_le (length bytes) (reading.header_length (reading.si_field bytes))) (Err (at Malformed (length bytes)))
+    (Ok (reading.segment_of (reading.si_field bytes) (word bytes 2)))
+
+abbrev pub segment_read : Result Segment Fault → Result protocol.Segment Fault
+segment_read (Ok segment) = Ok (segment_of segment)
+segment_read (Err fault) = Err fault
+
+abbrev pub pdu_of : Pdu → protocol.Pdu
+pdu_of (read.Amd header part) = protocol.amd (amd_of header part.bytes.now)
+pdu_of (read.Status ack_sn entries) = protocol.status (sn_of ack_sn) (entries_of entries)
+
+abbrev pub read_of : Result Pdu Fault → Result protocol.Pdu Fault
+read_of (Ok pdu) = Ok (pdu_of pdu)
+read_of (Err fault) = Err fault
+
+-- whether a PDU was read
+abbrev pub checked : Result protocol.Pdu Fault → Result (Unit {0}) Fault
+checked (Ok pdu) = Ok tt
+checked (Err fault) = Err fault
+
+-- a part of these bytes: all from `place` on
+abbrev pub Begins : Bytes → ℕ → Part → Type 0
+Begins bytes place part = (part.place ≡ place) × (part.bytes.now ≡ drop place bytes)
+
+-- the data field of what was read stands behind the header
+abbrev pub Placed : Bytes → Result Pdu Fault → Type 0
+Placed bytes (Ok (read.Amd header part)) = Begins bytes (header_length header.segment) part
+Placed bytes (Ok (read.Status ack_sn entries)) = Unit {0}
+Placed bytes (Err fault) = Unit {0}

@@ -1,25 +1,27 @@
 //! Counts, as types that do not stand for one another.
 
-ghost use Rattle.std.specs.Prelude.{◌≡◌, ◌+◌, ◌-◌, ◌%◌};
+ghost use Rattle.std.specs.Prelude.{◌≡◌, ◌+◌, ◌-◌, ◌%◌, ◌^◌, min};
 ghost use Rattle.protocol.specs.Numbers.{sn_modulus};
 ghost use Rattle.std.specs.Option.{option_map};
-ghost use Rattle.wire.specs.Views.{sn_of, count_of, held};
 
 use crate::numbers::Sn;
+use std::marker::PhantomData;
 
 /// A count of the layer `L`: whole, and never taken for a sequence number or for a count of the other layer.
-#[derive(Clone, Copy)]
+// With a model, clauses would see the number; but then a `Copy` struct that holds a count can be used once only,
+// since the borrow checker does not cover a second use.
+#[derive(Clone, Copy, PartialEq, Eq, PartialOrd, Ord)]
 pub struct Count<L> {
     value: u32,
-    layer: L,
+    layer: PhantomData<L>,
 }
 
 /// RLC counts SDUs.
-#[derive(Clone, Copy)]
+#[derive(Clone, Copy, PartialEq, Eq, PartialOrd, Ord)]
 pub struct Rlc;
 
 /// PDCP counts packets.
-#[derive(Clone, Copy)]
+#[derive(Clone, Copy, PartialEq, Eq, PartialOrd, Ord)]
 pub struct Pdcp;
 
 pub type RlcCount = Count<Rlc>;
@@ -27,11 +29,16 @@ pub type RlcCount = Count<Rlc>;
 pub type PdcpCount = Count<Pdcp>;
 
 impl<L: Copy> Count<L> {
+    ghost use Rattle.wire.specs.Counts.{sn_of, count_of, held};
+
     /// The count of the first SDU or packet.
-    pub fn first(layer: L) -> Count<L>
+    pub fn first() -> Count<L>
         ensures { count_of result ≡ 0 }
     {
-        Count { value: 0, layer }
+        Count {
+            value: 0,
+            layer: PhantomData,
+        }
     }
 
     pub fn value(self) -> u32
@@ -47,8 +54,18 @@ impl<L: Copy> Count<L> {
         let value = self.value.checked_add(steps)?;
         Some(Count {
             value,
-            layer: self.layer,
+            layer: PhantomData,
         })
+    }
+
+    /// The count `steps` later, or the largest that 32 bits hold.
+    pub fn saturating_plus(self, steps: u32) -> Count<L>
+        ensures { count_of result ≡ min (count_of self + steps) (2 ^ 32 - 1) }
+    {
+        Count {
+            value: self.value.saturating_add(steps),
+            layer: PhantomData,
+        }
     }
 
     /// The count before; the first count where there is none.
@@ -57,7 +74,7 @@ impl<L: Copy> Count<L> {
     {
         Count {
             value: self.value.saturating_sub(1),
-            layer: self.layer,
+            layer: PhantomData,
         }
     }
 

@@ -2,12 +2,14 @@
 
 ghost use Rattle.std.specs.Prelude.{◌≡◌, ◌≤◌, not, ◌&&◌, length, drop, IfSome};
 ghost use Rattle.protocol.specs.Reading.{in_order as ordered, valid};
+ghost use Rattle.std.specs.Iterator.{YieldsFirstBy, item_count};
 ghost use Rattle.std.specs.Option.{option_map};
-ghost use Rattle.wire.specs.Views.{sn_of, missing_of, entry_of, entries_of, front, found_of, found_at, noted, checked_entries};
+ghost use Rattle.wire.specs.Counts.{sn_of};
+ghost use Rattle.wire.specs.Views.{missing_of, entry_of, found_of, found_at, checked_entries};
 
-use crate::bits::{fault, has_bit, word};
+use crate::bits::{has_bit, word};
 use crate::numbers::Sn;
-use crate::pdus::{Entries, Entry, Missing};
+use crate::pdus::{Entry, Missing};
 use protocol::{Fault, Refusal};
 
 /// Flags in an entry's second byte: whether another entry follows, whether SOstart and SOend do,
@@ -86,29 +88,19 @@ fn is_valid(ack_sn: Sn, entry: Entry, e3: bool) -> bool
     !e3 && 1 <= behind && behind <= 2048 && in_order(entry.missing)
 }
 
-/// The place of the first invalid entry, once the entry at `place` was looked at.
-fn first_invalid(invalid: Option<usize>, fine: bool, place: usize) -> Option<usize>
-    ensures { result ≡ noted invalid fine place }
-{
-    match invalid {
-        None if !fine => Some(place),
-        _ => invalid,
-    }
-}
-
 /// Looks at all entries: first whether the PDU ends with the last of them, then for the first invalid one.
 pub(crate) fn check_entries(bytes: &[u8], ack_sn: Sn, e1: bool) -> Result<(), Fault>
     requires { 3 ≤ length bytes.now }
     ensures { result ≡ checked_entries (sn_of ack_sn) e1 (drop 3 bytes.now) }
 {
     let size = bytes.len();
-    let mut rest = &bytes[3..size];
+    let mut rest = &bytes[3..];
     let mut more = e1;
     let mut invalid = None;
     while more {
         let place = size - rest.len();
         let Some(found) = find_entry(rest) else {
-            return Err(fault(Refusal::Malformed, size));
+            return Err(Refusal::Malformed.at(size));
         };
         let Found {
             entry,
@@ -116,35 +108,48 @@ pub(crate) fn check_entries(bytes: &[u8], ack_sn: Sn, e1: bool) -> Result<(), Fa
             e1: follows,
             e3,
         } = found;
-        invalid = first_invalid(invalid, is_valid(ack_sn, entry, e3), place);
-        rest = &rest[length..rest.len()];
+        invalid = invalid.or((!is_valid(ack_sn, entry, e3)).then_some(place));
+        rest = &rest[length..];
         more = follows;
     }
     if !rest.is_empty() {
-        return Err(fault(Refusal::Malformed, size - rest.len()));
+        return Err(Refusal::Malformed.at(size - rest.len()));
     }
     match invalid {
-        Some(place) => Err(fault(Refusal::InvalidEntry, place)),
+        Some(place) => Err(Refusal::InvalidEntry.at(place)),
         None => Ok(()),
     }
 }
 
-impl Entries<'_> {
-    /// The next entry, or none after the last one.
-    pub fn next(&mut self) -> Option<Entry>
-        ensures { (option_map entry_of result, entries_of self.new) ≡ front (entries_of self.old) }
-    {
+/// The entries of a status report that are to come.
+#[derive(Drop)]
+pub struct Entries<'a> {
+    /// What is left of the PDU.
+    pub(crate) rest: &'a [u8],
+    /// Whether an entry begins there.
+    pub(crate) more: bool,
+}
+
+impl Iterator for Entries<'_> {
+    ghost use Rattle.wire.specs.Views.{entry_of, entries_of};
+
+    type Item = Entry;
+
+    ghost next_gives = { YieldsFirstBy entry_of entries_of };
+
+    ghost remaining = { item_count entries_of };
+
+    fn next(&mut self) -> Option<Entry> {
         if !self.more {
             return None;
         }
-        let rest = self.rest;
         let Found {
             entry,
             size,
             e1,
             e3: _,
-        } = find_entry(rest)?;
-        self.rest = &rest[size..rest.len()];
+        } = find_entry(self.rest)?;
+        self.rest = &self.rest[size..];
         self.more = e1;
         Some(entry)
     }

@@ -4,22 +4,20 @@
 
 mod bits;
 mod counts;
-mod drafting;
 mod drafts;
 mod entries;
 mod grants;
 mod numbers;
 mod pdus;
-mod permission;
 mod reading;
 mod writing;
 
 pub use counts::{Count, Pdcp, PdcpCount, Rlc, RlcCount};
-pub use drafting::NotClosed;
-pub use drafts::{Closed, Draft};
+pub use drafts::{Closed, Draft, NotClosed};
+pub use entries::Entries;
+pub use grants::Grant;
 pub use numbers::Sn;
-pub use pdus::{Entries, Entry, Missing, Part, Pdu};
-pub use permission::Grant;
+pub use pdus::{Entry, Header, Missing, Part, Pdu, Segment};
 pub use protocol::{End, Fault, Layer, Refusal};
 pub use reading::Reader;
-pub use writing::{Header, Segment, write_amd};
+pub use writing::write_amd;

@@ -1,30 +1,34 @@
 //! Sequence numbers, and the counts that they stand for.
 
-ghost use Rattle.std.specs.Prelude.{◌≡◌, ◌%◌};
+ghost use Rattle.std.specs.Prelude.{◌≡◌, ◌%◌, ◌<◌};
 ghost use Rattle.protocol.specs.Numbers.{sn_modulus, count_from, pdcp_count};
 ghost use Rattle.std.specs.Option.{option_map};
-ghost use Rattle.wire.specs.Views.{sn_of, count_of, held, held_if};
 
-use crate::counts::{Pdcp, PdcpCount, RlcCount};
+use crate::counts::{PdcpCount, RlcCount};
 
 /// A 12-bit sequence number, of RLC or of PDCP.
 #[derive(Clone, Copy)]
 pub struct Sn {
-    /// Taken modulo 4,096.
     value: u16,
+    ghost short: { value < sn_modulus },
 }
 
 impl Sn {
+    ghost use Rattle.wire.specs.Counts.{sn_of, count_of, held, held_if};
+
+    /// The number of 12 bits that these 16 end in.
     pub fn new(value: u16) -> Sn
         ensures { sn_of result ≡ value % sn_modulus }
     {
-        Sn { value }
+        Sn {
+            value: value % 4096,
+        }
     }
 
     pub fn value(self) -> u16
         ensures { result ≡ sn_of self }
     {
-        self.value % 4096
+        self.value
     }
 
     /// The RLC count that this number stands for in the window that begins at `base`;
@@ -52,6 +56,6 @@ impl Sn {
             hfn.checked_sub(1)?
         };
         let count = hfn.checked_mul(4096)?.checked_add(number)?;
-        PdcpCount::first(Pdcp).plus(count)
+        PdcpCount::first().plus(count)
     }
 }

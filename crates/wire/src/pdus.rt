@@ -1,5 +1,9 @@
-//! What is read from a PDU.
+//! What a PDU says.
 
+ghost use Rattle.std.specs.Prelude.{◌≡◌};
+ghost use Rattle.wire.specs.Views.{segment_of, so_of, header_length};
+
+use crate::entries::Entries;
 use crate::numbers::Sn;
 
 /// A part of the bytes read, and the offset at which it begins there.
@@ -24,42 +28,48 @@ pub struct Entry {
     pub missing: Missing,
 }
 
-/// A cursor over the entries of a status report.
-#[derive(Drop)]
-pub struct Entries<'a> {
-    /// What is left of the PDU.
-    pub(crate) rest: &'a [u8],
-    /// Whether an entry begins there.
-    pub(crate) more: bool,
+/// Which bytes of its SDU an AMD PDU carries: those of a segment begin at byte `so`.
+#[derive(Clone, Copy)]
+pub enum Segment {
+    Whole,
+    First,
+    Middle { so: u16 },
+    Last { so: u16 },
 }
 
-/// A PDU that was read. The data field of a segment is a part of the bytes read.
+/// The header of an AMD PDU.
+#[derive(Clone, Copy)]
+pub struct Header {
+    pub poll: bool,
+    pub sn: Sn,
+    pub segment: Segment,
+}
+
+/// A PDU that was read. The data field of an AMD PDU is a part of the bytes read.
 #[derive(Drop)]
 pub enum Pdu<'a> {
-    Whole {
-        poll: bool,
-        sn: Sn,
-        data: Part<'a>,
-    },
-    First {
-        poll: bool,
-        sn: Sn,
-        data: Part<'a>,
-    },
-    Middle {
-        poll: bool,
-        sn: Sn,
-        so: u16,
-        data: Part<'a>,
-    },
-    Last {
-        poll: bool,
-        sn: Sn,
-        so: u16,
-        data: Part<'a>,
-    },
-    Status {
-        ack_sn: Sn,
-        entries: Entries<'a>,
-    },
+    Amd { header: Header, data: Part<'a> },
+    Status { ack_sn: Sn, entries: Entries<'a> },
+}
+
+impl Segment {
+    /// SO, which a middle and a last segment have.
+    pub(crate) fn so(self) -> Option<u16>
+        ensures { result ≡ so_of self }
+    {
+        match self {
+            Segment::Whole | Segment::First => None,
+            Segment::Middle { so } | Segment::Last { so } => Some(so),
+        }
+    }
+
+    /// How many bytes stand before the data.
+    pub(crate) fn header_length(self) -> usize
+        ensures { result ≡ header_length self }
+    {
+        match self {
+            Segment::Whole | Segment::First => 2,
+            Segment::Middle { .. } | Segment::Last { .. } => 4,
+        }
+    }
 }

@@ -1,17 +1,14 @@
 //! The reader of received PDUs.
 
-ghost use Rattle.std.specs.Prelude.{◌≡◌, ◌<◌, ◌≤◌, length};
-ghost use Rattle.protocol.specs.Reading.{decode, read_amd, read_status, si_field};
-ghost use Rattle.wire.specs.Views.{read_of, Placed};
+ghost use Rattle.std.specs.Prelude.{◌≡◌, ◌<◌, length, IfOk};
+ghost use Rattle.protocol.specs.Reading.{decode, read_amd, read_status};
+ghost use Rattle.wire.specs.Views.{header_length, segment_in, segment_read, read_of, Placed};
 
-use crate::bits::{fault, has_bit, word};
-use crate::entries::check_entries;
+use crate::bits::{has_bit, word};
+use crate::entries::{Entries, check_entries};
 use crate::numbers::Sn;
-use crate::pdus::{Entries, Part, Pdu};
+use crate::pdus::{Header, Part, Pdu, Segment};
 use protocol::{End, Fault, Refusal};
-
-/// The longest SDU: a packet of 500 bytes with its PDCP header.
-pub(crate) const MAX_SDU: usize = 502;
 
 /// The P bit of an AMD PDU's first byte.
 const POLL: u32 = 6;
@@ -26,69 +23,43 @@ pub struct Reader<'a> {
     pub bytes: &'a [u8],
 }
 
+/// The segment that an AMD PDU carries, whose header and first byte of data are there.
+fn find_segment(bytes: &[u8]) -> Result<Segment, Fault>
+    ensures value { segment_read result ≡ segment_in bytes.now }
+    ensures room { IfOk result (λ segment. header_length segment < length bytes.now) }
+{
+    let size = bytes.len();
+    if size <= 2 {
+        return Err(Refusal::Malformed.at(size));
+    }
+    let si = bytes[0] / 16 % 4;
+    if si >= 2 && size <= 4 {
+        return Err(Refusal::Malformed.at(size));
+    }
+    Ok(match si {
+        0 => Segment::Whole,
+        1 => Segment::First,
+        2 => Segment::Last { so: word(bytes, 2) },
+        _ => Segment::Middle { so: word(bytes, 2) },
+    })
+}
+
 /// An AMD PDU, whose D/C bit was looked at.
 fn read_amd<'a>(bytes: &'a [u8]) -> Result<Pdu<'a>, Fault>
     ensures value { read_of result ≡ read_amd bytes.now }
     ensures places { Placed bytes.now result }
 {
-    let size = bytes.len();
-    if size <= 2 {
-        return Err(fault(Refusal::Malformed, size));
-    }
-    let si = bytes[0] / 16 % 4;
-    if si < 2 {
-        read_start(bytes, si)
-    } else {
-        read_rest(bytes, si)
-    }
-}
-
-/// A whole SDU or its first segment: no SO.
-fn read_start<'a>(bytes: &'a [u8], si: u8) -> Result<Pdu<'a>, Fault>
-    requires { (2 < length bytes.now) × ((si ≡ si_field bytes.now) × (si < 2)) }
-    ensures value { read_of result ≡ read_amd bytes.now }
-    ensures places { Placed bytes.now result }
-{
-    let size = bytes.len();
-    if size - 2 > MAX_SDU {
-        return Err(fault(Refusal::Offset, 0));
-    }
-    let poll = has_bit(bytes[0], POLL);
-    let sn = Sn::new(word(bytes, 0));
-    let data = Part {
-        bytes: &bytes[2..size],
-        place: 2,
+    let segment = find_segment(bytes)?;
+    let place = segment.header_length();
+    let part = &bytes[place..];
+    segment.check_offset(part.len())?;
+    let header = Header {
+        poll: has_bit(bytes[0], POLL),
+        sn: Sn::new(word(bytes, 0)),
+        segment,
     };
-    match si {
-        0 => Ok(Pdu::Whole { poll, sn, data }),
-        _ => Ok(Pdu::First { poll, sn, data }),
-    }
-}
-
-/// A middle or last segment, from byte SO on.
-fn read_rest<'a>(bytes: &'a [u8], si: u8) -> Result<Pdu<'a>, Fault>
-    requires { (2 < length bytes.now) × ((si ≡ si_field bytes.now) × (2 ≤ si)) }
-    ensures value { read_of result ≡ read_amd bytes.now }
-    ensures places { Placed bytes.now result }
-{
-    let size = bytes.len();
-    if size <= 4 {
-        return Err(fault(Refusal::Malformed, size));
-    }
-    let so = word(bytes, 2);
-    if so == 0 || usize::from(so) + (size - 4) > MAX_SDU {
-        return Err(fault(Refusal::Offset, 2));
-    }
-    let poll = has_bit(bytes[0], POLL);
-    let sn = Sn::new(word(bytes, 0));
-    let data = Part {
-        bytes: &bytes[4..size],
-        place: 4,
-    };
-    match si {
-        2 => Ok(Pdu::Last { poll, sn, so, data }),
-        _ => Ok(Pdu::Middle { poll, sn, so, data }),
-    }
+    let data = Part { bytes: part, place };
+    Ok(Pdu::Amd { header, data })
 }
 
 /// A status report, whose D/C bit and CPT were looked at.
@@ -98,12 +69,12 @@ fn read_status<'a>(bytes: &'a [u8]) -> Result<Pdu<'a>, Fault>
 {
     let size = bytes.len();
     if size < 3 {
-        return Err(fault(Refusal::Malformed, size));
+        return Err(Refusal::Malformed.at(size));
     }
     let ack_sn = Sn::new(word(bytes, 0));
     let more = has_bit(bytes[2], E1);
     check_entries(bytes, ack_sn, more)?;
-    let rest = &bytes[3..size];
+    let rest = &bytes[3..];
     Ok(Pdu::Status {
         ack_sn,
         entries: Entries { rest, more },
@@ -118,12 +89,12 @@ impl<'a> Reader<'a> {
     {
         let Reader { end, bytes } = self;
         if bytes.is_empty() {
-            return Err(fault(Refusal::WrongKind, 0));
+            return Err(Refusal::WrongKind.at(0));
         }
         match end {
             End::Near if bytes[0] < 16 => read_status(bytes),
             End::Far if bytes[0] >= 128 => read_amd(bytes),
-            _ => Err(fault(Refusal::WrongKind, 0)),
+            _ => Err(Refusal::WrongKind.at(0)),
         }
     }
 }

@@ -1,9 +1,12 @@
 -- Each turn is a step of the walk along the entries.
-use Rattle.std.proofs.Common.{◌-◌, length, drop, None, sym, ap, ◌∙◌, subst}
+use Rattle.std.proofs.Common.{not, ◌-◌, length, drop, None, sym, ap, ◌∙◌, subst}
 use Rattle.std.proofs.lemmas.List.{take_rest}
+use Rattle.std.specs.Bool.{then_some}
+use Rattle.std.specs.Option.{option_or}
 use Rattle.wire.proofs.Steps.{Walked, walked_start, walked_on}
 use Rattle.wire.proofs.entries.check_entries.Goals as goal
-use Rattle.wire.specs.Views.{sn_of, found_of, noted}
+use Rattle.wire.specs.Counts.{sn_of}
+use Rattle.wire.specs.Views.{found_of}
 
 pub loop-more-init : goal.loop-more-init
 loop-more-init c =
@@ -19,6 +22,6 @@ loop-more-preserved c =
     let ack = sn_of c.args.ack_sn in
     let seen = subst (λ more. Walked ack c.args.e1 (drop 3 pdu) (length pdu) more rest c.loop-more.invalid) c.loop-more-test.true c.loop-more.invariant in
     let on = walked_on ack c.args.e1 (drop 3 pdu) (length pdu) rest c.loop-more.invalid found seen (sym c.in-Some.ensures.value) in
-    subst (λ left. Walked ack c.args.e1 (drop 3 pdu) (length pdu) found.e1 left c.first_invalid-invalid.result) (sym (take_rest rest found.size))
-    (subst (λ invalid. Walked ack c.args.e1 (drop 3 pdu) (length pdu) found.e1 (drop found.size rest) invalid)
-    (sym (c.first_invalid-invalid.ensures ∙ ap (λ fine. noted c.loop-more.invalid fine (length pdu - length rest)) c.is_valid.ensures)) on)
+    let same = c.or-invalid.ensures ∙ ap (λ p. option_or c.loop-more.invalid p) (c.then_some.ensures ∙ ap (λ fine. then_some (not fine) (length pdu - length rest)) c.is_valid.ensures) in
+    subst (λ left. Walked ack c.args.e1 (drop 3 pdu) (length pdu) found.e1 left c.or-invalid.result) (sym (take_rest rest found.size))
+    (subst (λ invalid. Walked ack c.args.e1 (drop 3 pdu) (length pdu) found.e1 (drop found.size rest) invalid) (sym same) on)

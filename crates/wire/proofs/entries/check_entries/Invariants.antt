@@ -1,7 +1,7 @@
 use Rattle.std.proofs.Common.{length, drop}
 use Rattle.wire.proofs.Steps.{Walked}
 use Rattle.wire.proofs.entries.check_entries.Given as goal
-use Rattle.wire.specs.Views.{sn_of}
+use Rattle.wire.specs.Counts.{sn_of}
 
 -- What was seen of the entries so far decides with what is left.
 abbrev pub invariant-loop-more : goal.invariant-loop-more

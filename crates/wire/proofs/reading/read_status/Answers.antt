@@ -8,7 +8,8 @@ use Rattle.std.proofs.lemmas.List.{take_rest}
 use Rattle.std.proofs.lemmas.Result.{err_from_is_err_and}
 use Rattle.wire.proofs.Steps.{status_by, sn_word, answered}
 use Rattle.wire.proofs.reading.read_status.Goals as goal
-use Rattle.wire.specs.Views.{sn_of, checked_entries, read_of, Placed}
+use Rattle.wire.specs.Counts.{sn_of}
+use Rattle.wire.specs.Views.{checked_entries, read_of, Placed}
 
 read_by : (bytes : Bytes) (sn : ℕ) (e1 : Bool) (r : Result (Unit {0}) Fault) → 3 ≤ length bytes → sn ≡ sn_field bytes
     → e1 ≡ e1_field bytes → r ≡ checked_entries sn e1 (drop 3 bytes)

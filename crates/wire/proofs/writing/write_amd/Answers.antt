@@ -1,7 +1,6 @@
-use Rattle.std.proofs.Common.{◌≡◌, ◌+◌, ◌-◌, ◌≤◌, length, take, Ok, sym, ap, ◌∙◌, arith}
-use native.Mathlib.Nat.{sub-zero}
+use Rattle.std.proofs.Common.{◌+◌, ◌≤◌, length, Ok, sym, ap, ◌∙◌, arith}
 use Rattle.protocol.specs.Bytes.{put_at}
-use Rattle.wire.proofs.Packing.{amd_written}
+use Rattle.wire.proofs.Packing.{header_long, no_fault, amd_written}
 use Rattle.wire.proofs.writing.write_amd.Goals as goal
 use Rattle.wire.specs.Views.{header_bytes}
 
@@ -10,12 +9,10 @@ returns c =
     let head = header_bytes c.args.header in
     let bytes = c.args.data.now in
     let buffer = c.args.buffer.now in
-    let start = c.pack_header-start.result.1 in
-    let size : start ≡ length head = c.pack_header-start.ensures.1 in
-    let part : take (start - 0) c.pack_header-start.result.0 ≡ head =
-    ap (λ n. take n c.pack_header-start.result.0) (sub-zero start) ∙ c.pack_header-start.ensures.0 in
-    let first = c.put_bytes.ensures ∙ ap (λ xs. put_at 0 xs buffer) part in
-    let second = c.put_bytes-2.ensures ∙ ap (λ n. put_at n bytes c.put_bytes.new.buffer) size ∙ ap (put_at (length head) bytes) first in
-    let fits : length head + length bytes ≤ length buffer = omega arith in
-    ap (λ n. (Ok (n + length bytes), c.put_bytes-2.new.buffer)) size ∙ ap (λ b. (Ok (length head + length bytes), b)) second
-    ∙ amd_written c.args.header bytes buffer fits (sym c.in_default.ensures)
+    let size = c.header_length-start.ensures ∙ sym (header_long c.args.header) in
+    let written = c.put_bytes.ensures ∙ ap (λ b. put_at c.header_length-start.result bytes b) c.put_header.ensures in
+    let fits : length head + length bytes ≤ length buffer = omega (arith, size) in
+    let fine = no_fault _ _ (sym c.check_data.ensures ∙ c.in_ok-check_data.was) in
+    ap (λ b. (Ok (c.header_length-start.result + length bytes), b)) written
+    ∙ ap (λ n. (Ok (n + length bytes), put_at n bytes (put_at 0 head buffer))) size
+    ∙ amd_written c.args.header bytes buffer fits fine

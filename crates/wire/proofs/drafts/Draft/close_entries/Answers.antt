@@ -3,8 +3,9 @@ use Rattle.std.proofs.Common.{◌+◌, true, ◌∷◌, drop, set, Ok, Err, ap, 
 use Rattle.protocol.specs.Bytes.{byte}
 use Rattle.wire.proofs.Sealing.{closes_by, restored}
 use Rattle.wire.proofs.drafts.Draft.close_entries.Goals as goal
-use Rattle.wire.specs.Drafted.{draft_of, headed}
-use Rattle.wire.specs.Views.{sn_of}
+use Rattle.wire.specs.Drafted.{draft_of}
+use Rattle.wire.specs.Headers.{headed}
+use Rattle.wire.specs.Counts.{sn_of}
 
 pub returns-in-Ok : goal.returns-in-Ok
 returns-in-Ok c =
