@@ -12,7 +12,7 @@ use Rattle.rlc_tx.specs.declared.reporting.Touch.{Touch}
 use Rattle.rlc_tx.specs.declared.reporting.Touch.TheVariants.{Unnamed}
 use Rattle.rlc_tx.specs.declared.windows.Window.{Window}
 use Rattle.std.proofs.lemmas.Bool.{cases_eq, cond-true, cond-false, lt-ltb, eq-eqb, ne_eqb, and_from, and_left, and_right, not_from_true, not_from_false}
-use Rattle.wire.specs.Views.{count_of, held}
+use Rattle.wire.specs.Counts.{count_of, held}
 
 -- a count that 32 bits hold
 pub held_is : (x y : ℕ) → Some x ≡ held y → x ≡ y

@@ -12,7 +12,7 @@ use Rattle.rlc_tx.specs.Windows.{sdus_in, bare, Untired}
 use Rattle.rlc_tx.specs.declared.ends.NearEnd.{NearEnd}
 use Rattle.rlc_tx.specs.declared.windows.Window.{Window}
 use Rattle.std.proofs.lemmas.Bool.{both_ways, cases_lt, or_parts}
-use Rattle.wire.specs.Views.{count_of}
+use Rattle.wire.specs.Counts.{count_of}
 
 -- by a search in the window
 pub fails_is : (s : Settings) (n : near.Near) → InOrder n

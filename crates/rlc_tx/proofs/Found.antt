@@ -14,7 +14,7 @@ use Rattle.std.specs.Fn.{Shared}
 use Rattle.wire.specs.declared.counts.Count.{Count}
 use Rattle.wire.specs.declared.counts.Rlc.{Rlc}
 use Rattle.rlc_tx.specs.declared.windows.Window.{Window}
-use Rattle.wire.specs.Views.{count_of}
+use Rattle.wire.specs.Counts.{count_of}
 use Rattle.std.specs.Option.{option_map}
 
 -- a search by a closure that tests SDUs

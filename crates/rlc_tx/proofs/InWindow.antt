@@ -10,7 +10,7 @@ use Rattle.rlc_tx.specs.Searches.{first_in}
 use Rattle.rlc_tx.specs.Windows.{sdu_at, sdus_in, bare, with_sdu, Holds}
 use Rattle.rlc_tx.specs.declared.slots.Slot.{Slot}
 use Rattle.rlc_tx.specs.declared.windows.Window.{Window}
-use Rattle.wire.specs.Views.{count_of}
+use Rattle.wire.specs.Counts.{count_of}
 use Rattle.std.proofs.lemmas.List.{get_or-map, length-map, map-set}
 use Rattle.std.proofs.lemmas.Bool.{cases_lt, cases_eq, cond-true, cond-false, cond_both, lt-ltb, le-ltb, eq-eqb, ne_eqb}
 

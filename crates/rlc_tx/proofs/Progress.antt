@@ -12,7 +12,7 @@ use Rattle.rlc_tx.specs.declared.reporting.Touch.{Touch}
 use Rattle.rlc_tx.specs.declared.reporting.Touch.TheVariants.{Unnamed}
 use Rattle.rlc_tx.specs.declared.windows.Window.{Window}
 use Rattle.std.proofs.lemmas.Bool.{both_ways, cond-true, cond-false, lt-ltb, ltb-true, eqb-true}
-use Rattle.wire.specs.Views.{count_of, front}
+use Rattle.wire.specs.Counts.{count_of}
 
 -- names of one entry more ---------------------------------------------------------------------------------------------
 
@@ -227,16 +227,6 @@ module _ (before w after : Window) (es : List Entry) (e : Entry) (touches touche
             subst (Noted (near.named n (es ++ e ∷ []) x) (near.named_byte n (es ++ e ∷ []) x) (n.sdu x)) (sym (touches_are x (held_now x held) ∙ ap (λ m. touched m e touches x) stage.sdus))
             (noted_now x held);
       }
-
--- the cursor over the entries -----------------------------------------------------------------------------------------
-
-pub front_some : (xs rest : List Entry) (e : Entry) → ◌≡◌ {A = Option Entry × List Entry} (Some e, rest) (front xs) → xs ≡ e ∷ rest
-front_some [] rest e is = absurd (none_some e (ap (λ p. p.0) is))
-front_some (x ∷ xs) rest e is = let same = same_some e x (ap (λ p. p.0) is) in ap (λ y. y ∷ xs) (sym same) ∙ ap (λ ys. e ∷ ys) (sym (ap (λ p. p.1) is))
-
-pub front_none : (xs rest : List Entry) → ◌≡◌ {A = Option Entry × List Entry} (None, rest) (front xs) → xs ≡ []
-front_none [] rest is = refl
-front_none (x ∷ xs) rest is = absurd (none_some x (sym (ap (λ p. p.0) is)))
 
 pub all_unnamed : (k i : ℕ) → get_or (replicate k Unnamed) i Unnamed ≡ Unnamed
 all_unnamed zero i = refl

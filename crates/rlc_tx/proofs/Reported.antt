@@ -9,7 +9,7 @@ use Rattle.rlc_tx.specs.Touches.{named_of, touch_at, settled_to}
 use Rattle.rlc_tx.specs.Windows.{sdus_in, bare, Holds, Untired}
 use Rattle.rlc_tx.specs.declared.reporting.Touch.{Touch}
 use Rattle.rlc_tx.specs.declared.windows.Window.{Window}
-use Rattle.wire.specs.Views.{count_of}
+use Rattle.wire.specs.Counts.{count_of}
 
 module _ (e considered settled w : Window) (touches : List Touch) (ack : ℕ) (es : List Entry)
     (considers : bare considered ≡ near.with_sdus (bare e) (near.considered_in (bare e) es))

@@ -9,7 +9,7 @@ use Rattle.rlc_tx.specs.Windows.{sdus_in, bare, with_sdu, Holds}
 use Rattle.rlc_tx.specs.declared.reporting.Touch.{Touch}
 use Rattle.rlc_tx.specs.declared.windows.Window.{Window}
 use Rattle.std.proofs.lemmas.Bool.{cases_lt, cases_eq, cond-true, cond-false, lt-ltb, le-ltb, le-leb, lt-leb, eq-eqb, ne_eqb, and_from, and_left, and_right}
-use Rattle.wire.specs.Views.{count_of}
+use Rattle.wire.specs.Counts.{count_of}
 
 -- an SDU that is not acknowledged stays
 pub unsettled : (w : Window) (x : ℕ) (below named : Bool) → (below && (not named && not (near.has near.is_unsent (sdus_in w x)))) ≡ false

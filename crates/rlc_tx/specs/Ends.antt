@@ -11,7 +11,7 @@ use Rattle.rlc_tx.specs.declared.ends.Polling.{Polling}
 use Rattle.rlc_tx.specs.declared.ends.Report.{Report}
 use Rattle.rlc_tx.specs.declared.ends.Report.TheVariants.{Stale, Taken}
 use Rattle.timers.specs.Views.{timer_of, settings_of}
-use Rattle.wire.specs.Views.{count_of}
+use Rattle.wire.specs.Counts.{count_of}
 use Rattle.wire.specs.declared.counts.Count.{Count}
 use Rattle.wire.specs.declared.counts.Pdcp.{Pdcp}
 

@@ -5,7 +5,7 @@ use Rattle.protocol.specs.Settings.{Settings}
 use Rattle.rlc_tx.specs.declared.plans.Plan.{Plan}
 use Rattle.rlc_tx.specs.declared.plans.Run.{Run}
 use Rattle.std.specs.Option.{option_map}
-use Rattle.wire.specs.Views.{count_of}
+use Rattle.wire.specs.Counts.{count_of}
 
 abbrev pub run_of : Run → protocol.Run
 run_of r = record { count = count_of r.count; from = r.from; size = r.size; new = r.new }

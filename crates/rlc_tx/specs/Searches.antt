@@ -8,7 +8,7 @@ use Rattle.rlc_tx.specs.declared.slots.Slot.{Slot}
 use Rattle.rlc_tx.specs.declared.windows.Window.{Window}
 use Rattle.std.specs.Fn.{Shared, FnReturns}
 use Rattle.std.specs.Borrow.{Bor}
-use Rattle.wire.specs.Views.{count_of}
+use Rattle.wire.specs.Counts.{count_of}
 use Rattle.wire.specs.declared.counts.Count.{Count}
 use Rattle.wire.specs.declared.counts.Rlc.{Rlc}
 

@@ -5,7 +5,7 @@ use Rattle.protocol.specs.Searching.{update}
 use Rattle.protocol.specs.Sending.{Sdu, Near, gone, none_yet, new_near, exhausted, with_sdus}
 use Rattle.rlc_tx.specs.Slots.{sdu_of}
 use Rattle.rlc_tx.specs.declared.windows.Window.{Window}
-use Rattle.wire.specs.Views.{count_of}
+use Rattle.wire.specs.Counts.{count_of}
 
 -- the SDU of each count: gone below the window, none yet beyond it
 abbrev pub sdu_at : List Sdu → (first next : ℕ) → ℕ → Sdu

@@ -1,21 +1,15 @@
 //! The near end.
 
 ghost use Rattle.std.specs.Prelude.{◌≡◌, ◌+◌, ◌<◌, ◌≤◌, false, length};
-ghost use Rattle.protocol.specs.Refusals.{at as fault_at};
 ghost use Rattle.protocol.specs.Sending.{new_near, gives, given, highest_sent, considered_all, failed_if, tick_near};
 ghost use Rattle.rlc_tx.specs.Windows.{Untired, sdus_in};
-ghost use Rattle.wire.specs.Views.{count_of};
+ghost use Rattle.wire.specs.Counts.{count_of};
 
 use crate::slots::Slot;
 use crate::windows::Window;
+use protocol::{MAX_PACKET, PACKET_LIMIT};
 use timers::{Settings, Timer};
-use wire::{Fault, Pdcp, PdcpCount, Refusal, Rlc, RlcCount};
-
-/// The packets that a link accepts in all.
-const PACKET_LIMIT: u32 = 1_000_000;
-
-/// The longest packet.
-const MAX_PACKET: usize = 500;
+use wire::{Fault, PdcpCount, Refusal, RlcCount};
 
 /// What the near end keeps for its polls.
 #[derive(Clone, Copy)]
@@ -49,24 +43,6 @@ pub struct NearEnd {
     ghost untired: { (failed ≡ false → Untired settings.max_retx (sdus_in window)) },
 }
 
-/// Refused, at no place in particular.
-pub(crate) fn refused(refusal: Refusal) -> Fault
-    ensures { result ≡ fault_at refusal 0 }
-{
-    Fault { refusal, place: 0 }
-}
-
-/// The COUNT after this one.
-fn next(count: PdcpCount) -> PdcpCount
-    requires { count_of count < 1000000 }
-    ensures { count_of result ≡ count_of count + 1 }
-{
-    match count.plus(1) {
-        Some(next) => next,
-        None => count,
-    }
-}
-
 impl NearEnd {
     ghost use Rattle.rlc_tx.specs.Ends.{near_of, set_by, given_by, count_answered};
 
@@ -76,10 +52,10 @@ impl NearEnd {
     {
         NearEnd {
             settings,
-            pdcp_tx_next: PdcpCount::first(Pdcp),
+            pdcp_tx_next: PdcpCount::first(),
             window: Window::new(),
             polling: Polling {
-                poll_sn: RlcCount::first(Rlc),
+                poll_sn: RlcCount::first(),
                 pdu_without_poll: 0,
                 owed: false,
                 t_poll_retransmit: Timer::Stopped,
@@ -94,16 +70,16 @@ impl NearEnd {
         ensures set { self.new.settings ≡ self.old.settings }
     {
         if self.failed {
-            return Err(refused(Refusal::LinkFailed));
+            return Err(Refusal::LinkFailed.at(0));
         }
         if packet.is_empty() || packet.len() > MAX_PACKET {
-            return Err(refused(Refusal::PacketLength));
+            return Err(Refusal::PacketLength.at(0));
         }
         if self.window.is_full() {
-            return Err(refused(Refusal::WindowFull));
+            return Err(Refusal::WindowFull.at(0));
         }
         if self.pdcp_tx_next.value() >= PACKET_LIMIT {
-            return Err(refused(Refusal::PacketLimit));
+            return Err(Refusal::PacketLimit.at(0));
         }
         Ok(self.accept(packet))
     }
@@ -118,7 +94,7 @@ impl NearEnd {
     {
         let count = self.pdcp_tx_next;
         self.window.push(Slot::new(count.sn(), packet));
-        self.pdcp_tx_next = next(count);
+        self.pdcp_tx_next = count.saturating_plus(1);
         count
     }
 

@@ -5,7 +5,7 @@ ghost use Rattle.protocol.specs.Sending.{served, counted, nothing_to_send, marke
 ghost use Rattle.rlc_tx.specs.Ends.{near_of, set_by, unless_reached};
 ghost use Rattle.rlc_tx.specs.Plans.{run_of, plan_of, planned, served_as, Front};
 ghost use Rattle.std.specs.Option.{option_map};
-ghost use Rattle.wire.specs.Views.{count_of};
+ghost use Rattle.wire.specs.Counts.{count_of};
 
 use crate::ends::NearEnd;
 use crate::plans::{Plan, Run};

@@ -1,7 +1,7 @@
 //! What a grant would send.
 
 ghost use Rattle.std.specs.Prelude.{◌≡◌, ◌==◌, if◌then◌else◌};
-ghost use Rattle.wire.specs.Views.{count_of};
+ghost use Rattle.wire.specs.Counts.{count_of};
 
 use wire::RlcCount;
 
@@ -22,11 +22,7 @@ impl Run {
     pub(crate) fn size_in(self, count: RlcCount) -> usize
         ensures { result ≡ (if count_of count == count_of self.count then self.size else 0) }
     {
-        if count.value() == self.count.value() {
-            self.size
-        } else {
-            0
-        }
+        if count == self.count { self.size } else { 0 }
     }
 }
 

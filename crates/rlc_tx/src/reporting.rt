@@ -2,15 +2,17 @@
 
 ghost use Rattle.std.specs.Prelude.{◌≡◌, ℕ, ◌<◌, ◌≤◌, length, nat_lt};
 ghost use Rattle.rlc_tx.specs.Touches.{named_of, settled, settled_to, counted_of, counted_if, touch_at, named_touch, entered, touched};
+ghost use Rattle.protocol.specs.Numbers.{stale};
 ghost use Rattle.protocol.specs.Sending.{names_byte, named, considered_in, reported, reads, with_sdus};
 ghost use Rattle.protocol.specs.Reading.{decode};
 ghost use Rattle.protocol.specs.declared.faults.End.TheVariants.{Near};
 ghost use Rattle.rlc_tx.specs.Ends.{near_of, set_by, read_by};
 ghost use Rattle.rlc_tx.specs.Touches.{named_sdu};
 ghost use Rattle.rlc_tx.specs.Windows.{sdus_in, bare, with_sdu, Holds};
-ghost use Rattle.wire.specs.Views.{count_of, missing_of, entry_of, entries_of};
+ghost use Rattle.wire.specs.Counts.{count_of};
+ghost use Rattle.wire.specs.Views.{missing_of, entry_of, entries_of};
 
-use crate::ends::{NearEnd, Report, refused};
+use crate::ends::{NearEnd, Report};
 use crate::windows::{Window, place};
 use wire::{End, Entries, Entry, Fault, Pdu, Reader, Refusal, RlcCount};
 
@@ -39,6 +41,13 @@ impl Touch {
 }
 
 impl Window {
+    /// An ACK count that lies beyond TX_Next is an old one.
+    fn is_stale(&self, ack: RlcCount) -> bool
+        ensures { result ≡ stale (count_of self.now.tx_next) (count_of ack) }
+    {
+        ack > self.tx_next
+    }
+
     /// An entry is considered for an SDU of the window that is not acknowledged. Answers what is to be noted of it.
     fn consider_named(&mut self, count: RlcCount, entry: Entry, touch: Touch) -> Touch
         requires { Holds self.old (count_of count) }
@@ -48,8 +57,8 @@ impl Window {
         if self.slot(count).is_acknowledged() {
             return Touch::Named;
         }
-        let counted = self.consider(count, entry.missing, touch == Touch::Counted);
-        Touch::named(counted)
+        let counted = touch == Touch::Counted;
+        Touch::named(self.consider(count, entry.missing, counted))
     }
 
     /// One entry.
@@ -61,7 +70,7 @@ impl Window {
         let Some(count) = entry.nack_sn.rlc_count(self.tx_next_ack) else {
             return;
         };
-        if count.value() >= self.tx_next.value() {
+        if count >= self.tx_next {
             return;
         }
         let place = place(count);
@@ -69,12 +78,12 @@ impl Window {
     }
 
     /// All entries, in order. Answers what is noted of each SDU.
-    fn consider_entries(&mut self, mut entries: Entries) -> [Touch; 16]
+    fn consider_entries(&mut self, entries: Entries) -> [Touch; 16]
         ensures sdus { bare self.new ≡ with_sdus (bare self.old) (considered_in (bare self.old) (entries_of entries.entry)) }
         ensures named { (x : ℕ) → Holds self.old x → named_of (touch_at result x) ≡ named (bare self.old) (entries_of entries.entry) x }
     {
         let mut touches = [Touch::Unnamed; 16];
-        while let Some(entry) = entries.next() {
+        for entry in entries {
             self.consider_entry(&mut touches, entry);
         }
         touches
@@ -85,7 +94,7 @@ impl Window {
         requires { Holds self.old (count_of count) }
         ensures { bare self.new ≡ with_sdu (bare self.old) (count_of count) (settled (nat_lt (count_of count) (count_of ack)) (named_of touch) (sdus_in self.old (count_of count))) }
     {
-        let below = count.value() < ack.value();
+        let below = count < ack;
         let named = touch != Touch::Unnamed;
         let unsent = self.slot(count).has_unsent();
         if below && !named && !unsent {
@@ -115,7 +124,7 @@ impl NearEnd {
         self.failed |= self.window.is_exhausted(self.settings.max_retx);
         self.window.acknowledge_all(ack, &touches);
         self.window.advance();
-        let answered = self.polling.poll_sn.value() < ack.value();
+        let answered = self.polling.poll_sn < ack;
         self.polling.t_poll_retransmit.stop_if(answered);
     }
 
@@ -129,12 +138,12 @@ impl NearEnd {
             bytes,
         };
         let Pdu::Status { ack_sn, entries } = reader.read()? else {
-            return Err(refused(Refusal::WrongKind));
+            return Err(Refusal::WrongKind.at(0));
         };
         let Some(ack) = ack_sn.rlc_count(self.window.tx_next_ack) else {
             return Ok(Report::Stale);
         };
-        if ack.value() > self.window.tx_next.value() {
+        if self.window.is_stale(ack) {
             return Ok(Report::Stale);
         }
         self.report(ack, entries);

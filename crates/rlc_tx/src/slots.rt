@@ -5,15 +5,14 @@ ghost use Rattle.protocol.specs.Pdus.{encode_pdcp};
 ghost use Rattle.protocol.specs.Sending.{acknowledge, exhausted, has, byte_from, is_pending, is_unsent, names_byte, newly_pending, segment_at, sent_run, unsent_sdu};
 ghost use Rattle.rlc_tx.specs.Considered.{counted_once, has_counted, considered_next};
 ghost use Rattle.rlc_tx.specs.Marks.{Begun, Unbegun, NoneBelow, pending_in, bounded};
-ghost use Rattle.wire.specs.Views.{count_of, missing_of, segment_of, sn_of};
+ghost use Rattle.wire.specs.Counts.{count_of, sn_of};
+ghost use Rattle.wire.specs.Views.{missing_of, segment_of};
 
 use crate::marks::{Mark, count_front, replace};
 use crate::plans::Run;
+use protocol::MAX_SDU;
 use std::ops::Range;
 use wire::{Missing, RlcCount, Segment, Sn};
-
-/// The longest SDU: a packet of 500 bytes with its PDCP header.
-const MAX_SDU: usize = 502;
 
 /// An SDU of the window, and what became of its bytes. Its memory is fixed.
 #[derive(Clone, Copy)]

@@ -6,9 +6,9 @@ ghost use Rattle.protocol.specs.Pdus.{amd, encode};
 ghost use Rattle.protocol.specs.Sending.{counted, reached, marked, amd_of_run, spent, polls, spends};
 ghost use Rattle.rlc_tx.specs.Ends.{near_of, set_by, polling_of, spent_by, polled_by};
 ghost use Rattle.rlc_tx.specs.Plans.{run_of, Serves};
-ghost use Rattle.wire.specs.Views.{count_of};
+ghost use Rattle.wire.specs.Counts.{count_of};
 
-use crate::ends::{NearEnd, Polling, refused};
+use crate::ends::{NearEnd, Polling};
 use crate::plans::{Plan, Run};
 use timers::Timer;
 use wire::{Fault, Grant, Header, Refusal, write_amd};
@@ -82,10 +82,10 @@ impl NearEnd {
         let size = grant.size();
         grant.give_back();
         if self.failed {
-            return Err(refused(Refusal::LinkFailed));
+            return Err(Refusal::LinkFailed.at(0));
         }
         if buffer.len() < size {
-            return Err(refused(Refusal::ShortBuffer));
+            return Err(Refusal::ShortBuffer.at(0));
         }
         let Some(plan) = self.plan_for(size) else {
             return Ok(0);

@@ -6,14 +6,13 @@ ghost use Rattle.protocol.specs.Sending.{window_size, new_near, advanced, acknow
 ghost use Rattle.rlc_tx.specs.Considered.{considered_next, counted_by};
 ghost use Rattle.rlc_tx.specs.Marks.{bounded};
 ghost use Rattle.std.specs.Option.{option_map};
-ghost use Rattle.wire.specs.Views.{count_of, missing_of};
+ghost use Rattle.wire.specs.Counts.{count_of};
+ghost use Rattle.wire.specs.Views.{missing_of};
 
 use crate::plans::Run;
 use crate::slots::Slot;
-use wire::{Missing, Rlc, RlcCount};
-
-/// The number of SDUs that a window holds.
-const WINDOW_SIZE: usize = 16;
+use protocol::WINDOW_SIZE;
+use wire::{Missing, RlcCount};
 
 /// The place of a count in a ring.
 pub(crate) fn place(count: RlcCount) -> usize
@@ -44,7 +43,7 @@ impl Window {
     pub(crate) fn new() -> Window
         ensures { bare result ≡ new_near }
     {
-        let first = RlcCount::first(Rlc);
+        let first = RlcCount::first();
         Window {
             tx_next_ack: first,
             tx_next: first,
@@ -55,7 +54,7 @@ impl Window {
     pub(crate) fn is_full(&self) -> bool
         ensures { result ≡ nat_le (count_of self.now.tx_next_ack + window_size) (count_of self.now.tx_next) }
     {
-        self.tx_next.value() >= self.tx_next_ack.value() + 16
+        self.len() >= WINDOW_SIZE as u32
     }
 
     /// How many SDUs are in it.
@@ -70,10 +69,7 @@ impl Window {
         requires { k ≤ 16 }
         ensures { count_of result ≡ count_of self.now.tx_next_ack + k }
     {
-        match self.tx_next_ack.plus(k) {
-            Some(count) => count,
-            None => self.tx_next_ack,
-        }
+        self.tx_next_ack.saturating_plus(k)
     }
 
     /// The slot of a count.
@@ -135,9 +131,8 @@ impl Window {
         ensures next { count_of self.new.tx_next ≡ count_of self.old.tx_next + 1 }
         ensures sdus { (x : ℕ) → sdus_in self.new x ≡ update (sdus_in self.old) (count_of self.old.tx_next) (sdu_of slot) x }
     {
-        let next = self.count(self.len() + 1);
         self.slots[place(self.tx_next)] = slot;
-        self.tx_next = next;
+        self.tx_next = self.tx_next.saturating_plus(1);
     }
 
     /// It begins at the lowest count that is not acknowledged.

@@ -14,7 +14,7 @@ use Rattle.rlc_tx.specs.Slots.{sdu_of}
 use Rattle.rlc_tx.specs.declared.slots.Slot.{Slot}
 use Rattle.std.proofs.lemmas.Bool.{eqb-true}
 use Rattle.std.specs.Option.{option_map}
-use Rattle.wire.specs.Views.{count_of}
+use Rattle.wire.specs.Counts.{count_of}
 
 -- what is left of an SDU, once the run was sent
 left_then : (slot : Slot) (run : Run) (x : ℕ) → (x ≡ run.count → Front (served_as run.new) (sdu_of slot) run.from run.size)

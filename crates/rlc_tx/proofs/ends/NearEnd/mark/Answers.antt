@@ -6,7 +6,7 @@ use Rattle.rlc_tx.proofs.OfEnd.{few_sent}
 use Rattle.rlc_tx.proofs.ends.NearEnd.mark.Goals as goal
 use Rattle.rlc_tx.specs.Ends.{near_of}
 use Rattle.rlc_tx.specs.Windows.{sdus_in}
-use Rattle.wire.specs.Views.{count_of}
+use Rattle.wire.specs.Counts.{count_of}
 
 pub send-requires : goal.send-requires
 send-requires c =

@@ -7,7 +7,7 @@ use Rattle.rlc_tx.proofs.ends.NearEnd.next_run.Goals as goal
 use Rattle.rlc_tx.specs.Ends.{near_of}
 use Rattle.rlc_tx.specs.Plans.{run_of, run_at}
 use Rattle.std.specs.Option.{option_map}
-use Rattle.wire.specs.Views.{count_of}
+use Rattle.wire.specs.Counts.{count_of}
 
 pub pending_run-requires : goal.pending_run-requires
 pending_run-requires c =

@@ -1,4 +1,4 @@
-use Rattle.std.proofs.Common.{ℕ, ◌||◌, ltb, sym, refl, ap, ◌∙◌}
+use Rattle.std.proofs.Common.{◌≡◌, ℕ, ◌||◌, ltb, sym, refl, ap, ◌∙◌, rules}
 use Rattle.protocol.specs.Sending.{Near, with_sdus, considered_in}
 use Rattle.protocol.specs.Timers.{stopped_if}
 use Rattle.rlc_tx.proofs.Failing.{over, failed_as, still_untired}
@@ -7,7 +7,8 @@ use Rattle.rlc_tx.proofs.ends.NearEnd.report.Goals as goal
 use Rattle.rlc_tx.specs.Ends.{near_of}
 use Rattle.rlc_tx.specs.Windows.{bare}
 use Rattle.timers.specs.Views.{timer_of}
-use Rattle.wire.specs.Views.{count_of, entries_of}
+use Rattle.wire.specs.Counts.{count_of}
+use Rattle.wire.specs.Views.{entries_of}
 
 abbrev next : Near → ℕ
 next n = n.tx_next
@@ -33,7 +34,8 @@ returns c =
     let ack = count_of c.args.ack in
     let after =
     window_after n.window considered.new.self c.acknowledge_all.new.self c.advance.new.self considered.result ack es considered.ensures.sdus c.acknowledge_all.ensures c.advance.ensures c.requires considered.ensures.named in
-    let timer = c.stop_if.ensures ∙ ap (λ b. stopped_if b (timer_of n.polling.t_poll_retransmit)) (ap (λ a. ltb a c.value-2.result) c.value.ensures ∙ ap (ltb (count_of n.polling.poll_sn)) c.value-2.ensures) in
+    let told : c.lt-answered.result ≡ ltb (count_of n.polling.poll_sn) ack = search rules in
+    let timer = c.stop_if.ensures ∙ ap (λ b. stopped_if b (timer_of n.polling.t_poll_retransmit)) told in
     let failed = failed_as n considered.new.self (with_sdus (bare n.window) (considered_in (bare n.window) es)) c.is_exhausted.result considered.ensures.sdus c.is_exhausted.ensures in
     record {
       near = λ i.

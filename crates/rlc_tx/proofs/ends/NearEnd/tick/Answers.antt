@@ -9,7 +9,7 @@ use Rattle.rlc_tx.specs.Ends.{near_of, set_by}
 use Rattle.rlc_tx.specs.Searches.{left}
 use Rattle.std.specs.Option.{option_map}
 use Rattle.timers.specs.Views.{timer_of}
-use Rattle.wire.specs.Views.{count_of}
+use Rattle.wire.specs.Counts.{count_of}
 
 pub returns-then-is_none : goal.returns-then-is_none
 returns-then-is_none c =

@@ -2,7 +2,7 @@ use Rattle.std.proofs.Common.{◌≡◌, ℕ, ◌+◌, ◌/◌, ◌%◌, List, �
 use Rattle.protocol.specs.Sending.{unsent_sdu}
 use Rattle.rlc_tx.proofs.slots.Slot.new.Goals as goal
 use Rattle.std.proofs.lemmas.List.{take_at}
-use Rattle.wire.specs.Views.{sn_of}
+use Rattle.wire.specs.Counts.{sn_of}
 
 -- the header and the packet stand before the rest
 sdu_bytes : (sn number : ℕ) (packet copied rest : List ℕ) → number ≡ sn → copied ≡ packet

@@ -5,7 +5,7 @@ use Rattle.rlc_tx.proofs.OfSlot.{marked, long, run_is}
 use Rattle.rlc_tx.proofs.slots.Slot.pending_run.Goals as goal
 use Rattle.rlc_tx.specs.Marks.{is_pending}
 use Rattle.rlc_tx.specs.Slots.{sdu_of}
-use Rattle.wire.specs.Views.{count_of}
+use Rattle.wire.specs.Counts.{count_of}
 
 pub returns : goal.returns
 returns c =

@@ -4,7 +4,7 @@ use Rattle.rlc_tx.proofs.Marked.{byte_unsent, unsent_to}
 use Rattle.rlc_tx.proofs.OfSlot.{marked, long, run_is}
 use Rattle.rlc_tx.proofs.slots.Slot.unsent_run.Goals as goal
 use Rattle.rlc_tx.specs.Slots.{sdu_of}
-use Rattle.wire.specs.Views.{count_of}
+use Rattle.wire.specs.Counts.{count_of}
 
 pub returns : goal.returns
 returns c =

@@ -3,7 +3,7 @@ use Rattle.protocol.specs.Sending.{acknowledge}
 use Rattle.rlc_tx.proofs.InWindow.{stands_at, changed_at}
 use Rattle.rlc_tx.proofs.windows.Window.acknowledge.Goals as goal
 use Rattle.std.proofs.lemmas.List.{length-set}
-use Rattle.wire.specs.Views.{count_of}
+use Rattle.wire.specs.Counts.{count_of}
 
 pub returns : goal.returns
 returns c =

@@ -7,7 +7,7 @@ use Rattle.rlc_tx.specs.Touches.{named_of, settled, settled_to}
 use Rattle.rlc_tx.specs.Windows.{sdus_in, bare, with_sdu}
 use Rattle.rlc_tx.specs.declared.reporting.Touch.TheVariants.{Unnamed}
 use Rattle.std.proofs.Common.{ltb}
-use Rattle.wire.specs.Views.{count_of}
+use Rattle.wire.specs.Counts.{count_of}
 
 pub loop-k-preserved : goal.loop-k-preserved
 loop-k-preserved c =

@@ -3,7 +3,7 @@ use Rattle.protocol.specs.Sending.{with_sdus}
 use Rattle.rlc_tx.proofs.windows.Window.acknowledge_all.Given as goal
 use Rattle.rlc_tx.specs.Touches.{settled_to}
 use Rattle.rlc_tx.specs.Windows.{sdus_in, bare}
-use Rattle.wire.specs.Views.{count_of}
+use Rattle.wire.specs.Counts.{count_of}
 
 abbrev pub invariant-loop-k : goal.invariant-loop-k
 invariant-loop-k l =

@@ -11,7 +11,7 @@ use Rattle.rlc_tx.specs.Windows.{sdus_in}
 use Rattle.rlc_tx.specs.declared.windows.Window.{Window}
 use Rattle.std.proofs.Common.{Option, unwrap_or}
 use Rattle.std.specs.Option.{option_map}
-use Rattle.wire.specs.Views.{count_of}
+use Rattle.wire.specs.Counts.{count_of}
 use Rattle.wire.specs.declared.counts.Count.{Count}
 use Rattle.wire.specs.declared.counts.Rlc.{Rlc}
 

@@ -4,7 +4,8 @@ use Rattle.rlc_tx.proofs.InWindow.{stands_at, changed_at}
 use Rattle.rlc_tx.proofs.windows.Window.consider.Goals as goal
 use Rattle.rlc_tx.specs.Considered.{considered_next, counted_by}
 use Rattle.std.proofs.lemmas.List.{length-set}
-use Rattle.wire.specs.Views.{count_of, missing_of}
+use Rattle.wire.specs.Counts.{count_of}
+use Rattle.wire.specs.Views.{missing_of}
 
 pub consider-requires : goal.consider-requires
 consider-requires c =

@@ -1,4 +1,4 @@
-use Rattle.std.proofs.Common.{◌≡◌, ◌<◌, ◌≤◌, get_or, ap, ◌∙◌, arith}
+use Rattle.std.proofs.Common.{◌≡◌, ◌<◌, ◌≤◌, get_or, ap, ◌∙◌, arith, rules}
 use Rattle.protocol.specs.Sending.{names_byte, tx_count}
 use Rattle.rlc_tx.proofs.Entered.{held_is, entered_as, touched_as}
 use Rattle.rlc_tx.proofs.InWindow.{same_sdus}
@@ -7,12 +7,13 @@ use Rattle.rlc_tx.specs.Touches.{counted_of, touch_at, named_touch}
 use Rattle.rlc_tx.specs.Windows.{sdus_in, bare, Holds}
 use Rattle.rlc_tx.specs.declared.reporting.Touch.TheVariants.{Unnamed}
 use Rattle.std.proofs.lemmas.List.{length-set}
-use Rattle.wire.specs.Views.{count_of, entry_of}
+use Rattle.wire.specs.Counts.{count_of}
+use Rattle.wire.specs.Views.{entry_of}
 
 pub consider_named-requires : goal.consider_named-requires
 consider_named-requires c =
     let is = held_is _ _ c.in-Some.ensures in
-    record { from = omega (arith, is); to = omega (arith, c.if-value.false, c.value.ensures, c.value-2.ensures) }
+    record { from = omega (arith, is); to = search rules }
 
 pub returns : goal.returns
 returns c =
@@ -22,7 +23,7 @@ returns c =
     let count = count_of c.in-Some.count in
     let place = c.place-place.result in
     let is : count ≡ tx_count (bare w) e.nack_sn = held_is _ _ c.in-Some.ensures in
-    let held : Holds w count = record { from = omega (arith, is); to = omega (arith, c.if-value.false, c.value.ensures, c.value-2.ensures) } in
+    let held : Holds w count = record { from = omega (arith, is); to = search rules } in
     let at : get_or touches place Unnamed ≡ touch_at touches count = ap (λ i. get_or touches i Unnamed) c.place-place.ensures in
     record {
       sdus = c.consider_named.ensures.sdus ∙ same_sdus (bare w) _ _ (entered_as w e touches count is held (get_or touches place Unnamed) at);

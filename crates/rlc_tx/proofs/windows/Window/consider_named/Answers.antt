@@ -8,7 +8,8 @@ use Rattle.rlc_tx.proofs.windows.Window.consider_named.Goals as goal
 use Rattle.rlc_tx.specs.Considered.{considered_next}
 use Rattle.rlc_tx.specs.Touches.{counted_of}
 use Rattle.rlc_tx.specs.Windows.{sdus_in, bare}
-use Rattle.wire.specs.Views.{count_of, missing_of}
+use Rattle.wire.specs.Counts.{count_of}
+use Rattle.wire.specs.Views.{missing_of}
 
 pub returns-then-is_acknowledged-clause-sdus : goal.returns-then-is_acknowledged-clause-sdus
 returns-then-is_acknowledged-clause-sdus c =
@@ -20,8 +21,8 @@ returns-then-is_acknowledged-clause-sdus c =
 pub returns-clause-sdus : goal.returns-clause-sdus
 returns-clause-sdus c =
     let w = c.args.self.now in
-    c.consider-counted.ensures.after
-    ∙ ap (λ counted. with_sdus (bare w) (update (sdus_in w) (count_of c.args.count) (considered_next counted (names_byte (missing_of c.args.entry.missing)) (sdus_in w (count_of c.args.count))))) (c.eq.ensures ∙ counted_is c.args.touch)
+    c.consider.ensures.after
+    ∙ ap (λ counted. with_sdus (bare w) (update (sdus_in w) (count_of c.args.count) (considered_next counted (names_byte (missing_of c.args.entry.missing)) (sdus_in w (count_of c.args.count))))) (c.eq-counted.ensures ∙ counted_is c.args.touch)
     ∙ same_sdus (bare w) _ _
     (named_once (count_of c.args.count) (names_byte (missing_of c.args.entry.missing)) (counted_of c.args.touch) (sdus_in w)
     (ap (λ (s : Sdu). s.acknowledged) (sym c.slot.ensures) ∙ sym c.is_acknowledged.ensures ∙ c.if-is_acknowledged.false))

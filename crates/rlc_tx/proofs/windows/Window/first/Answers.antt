@@ -2,7 +2,7 @@ use Rattle.std.proofs.Common.{◌≡◌, ◌+◌, refl, ap, ◌∙◌, sym, ⊎_
 use Rattle.rlc_tx.proofs.windows.Window.first.Goals as goal
 use Rattle.rlc_tx.specs.Windows.{sdus_in}
 use Rattle.std.proofs.lemmas.Bool.{cases_eq}
-use Rattle.wire.specs.Views.{count_of}
+use Rattle.wire.specs.Counts.{count_of}
 
 pub returns-then-wanted : goal.returns-then-wanted
 returns-then-wanted g c =

@@ -6,7 +6,7 @@ use Rattle.rlc_tx.proofs.Served.{top_to}
 use Rattle.rlc_tx.proofs.windows.Window.highest.Goals as goal
 use Rattle.rlc_tx.specs.Windows.{bare}
 use Rattle.std.proofs.lemmas.Bool.{cases_eq}
-use Rattle.wire.specs.Views.{count_of}
+use Rattle.wire.specs.Counts.{count_of}
 
 pub count-count-requires : goal.count-count-requires
 count-count-requires c =

@@ -4,7 +4,7 @@ use Rattle.rlc_tx.proofs.Found.{found_by}
 use Rattle.rlc_tx.proofs.Served.{some_mapped}
 use Rattle.rlc_tx.proofs.windows.Window.is_exhausted.Goals as goal
 use Rattle.std.specs.Option.{option_map}
-use Rattle.wire.specs.Views.{count_of}
+use Rattle.wire.specs.Counts.{count_of}
 
 pub returns : goal.returns
 returns c =

@@ -5,7 +5,7 @@ use Rattle.rlc_tx.proofs.OfEnd.{bare_ordered}
 use Rattle.rlc_tx.proofs.Served.{top_to}
 use Rattle.rlc_tx.proofs.windows.Window.repeat_highest.Goals as goal
 use Rattle.rlc_tx.specs.Windows.{bare}
-use Rattle.wire.specs.Views.{count_of}
+use Rattle.wire.specs.Counts.{count_of}
 
 pub consider-requires : goal.consider-requires
 consider-requires c =

@@ -5,7 +5,7 @@ use Rattle.rlc_tx.proofs.windows.Window.send.Goals as goal
 use Rattle.rlc_tx.specs.Marks.{bounded}
 use Rattle.rlc_tx.specs.Plans.{run_of, Front, served_as}
 use Rattle.std.proofs.lemmas.List.{length-set}
-use Rattle.wire.specs.Views.{count_of}
+use Rattle.wire.specs.Counts.{count_of}
 
 pub send-requires : goal.send-requires
 send-requires c =

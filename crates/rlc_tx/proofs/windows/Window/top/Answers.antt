@@ -5,7 +5,7 @@ use Rattle.rlc_tx.proofs.OfEnd.{bare_ordered}
 use Rattle.rlc_tx.proofs.windows.Window.top.Goals as goal
 use Rattle.rlc_tx.specs.Windows.{bare}
 use Rattle.std.specs.Option.{option_map}
-use Rattle.wire.specs.Views.{count_of}
+use Rattle.wire.specs.Counts.{count_of}
 
 pub returns : goal.returns
 returns c =
