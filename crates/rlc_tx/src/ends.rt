@@ -44,11 +44,11 @@ pub struct NearEnd {
 }
 
 impl NearEnd {
-    ghost use Rattle.rlc_tx.specs.Ends.{near_of, set_by, given_by, count_answered};
+    ghost use Rattle.timers.specs.Views.{settings_of};
+    ghost use Rattle.rlc_tx.specs.Ends.{near_of, state_of, after, given_by, count_answered};
 
     pub fn new(settings: Settings) -> NearEnd
-        ensures near { near_of result ≡ new_near }
-        ensures set { result.settings ≡ settings }
+        ensures { state_of result ≡ (settings_of settings, new_near) }
     {
         NearEnd {
             settings,
@@ -66,8 +66,7 @@ impl NearEnd {
 
     /// The packet becomes the next SDU, under the COUNT that is answered.
     pub fn give(&mut self, packet: &[u8]) -> Result<PdcpCount, Fault>
-        ensures near { (count_answered result, near_of self.new) ≡ given_by (gives packet.now (near_of self.old)) (near_of self.old) }
-        ensures set { self.new.settings ≡ self.old.settings }
+        ensures { (count_answered result, state_of self.new) ≡ given_by (gives packet.now (near_of self.old)) (state_of self.old) }
     {
         if self.failed {
             return Err(Refusal::LinkFailed.at(0));
@@ -89,8 +88,7 @@ impl NearEnd {
         requires room { (near_of self.old).tx_next < (near_of self.old).tx_next_ack + 16 }
         requires few { (near_of self.old).pdcp_tx_next < 1000000 }
         ensures count { count_of result ≡ (near_of self.old).pdcp_tx_next }
-        ensures near { near_of self.new ≡ given packet.now (near_of self.old) }
-        ensures set { self.new.settings ≡ self.old.settings }
+        ensures state { state_of self.new ≡ after (λ _. given packet.now) (state_of self.old) }
     {
         let count = self.pdcp_tx_next;
         self.window.push(Slot::new(count.sn(), packet));
@@ -100,8 +98,7 @@ impl NearEnd {
 
     /// All bytes of the highest SDU that was sent and is not acknowledged are to be sent again.
     fn repeat(&mut self)
-        ensures near { near_of self.new ≡ failed_if (set_by self.old) (considered_all (highest_sent (near_of self.old)) (near_of self.old)) }
-        ensures set { self.new.settings ≡ self.old.settings }
+        ensures { state_of self.new ≡ after (λ s n. failed_if s (considered_all (highest_sent n) n)) (state_of self.old) }
     {
         self.window.repeat_highest();
         self.failed |= self.window.is_exhausted(self.settings.max_retx);
@@ -109,8 +106,7 @@ impl NearEnd {
 
     /// One Tick: when t-PollRetransmit runs out a poll is owed, and something to send it with.
     pub fn tick(&mut self)
-        ensures near { near_of self.new ≡ tick_near (set_by self.old) (near_of self.old) }
-        ensures set { self.new.settings ≡ self.old.settings }
+        ensures { state_of self.new ≡ after tick_near (state_of self.old) }
     {
         if self.polling.t_poll_retransmit.tick() {
             self.polling.owed = true;

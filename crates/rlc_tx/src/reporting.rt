@@ -6,7 +6,7 @@ ghost use Rattle.protocol.specs.Numbers.{stale};
 ghost use Rattle.protocol.specs.Sending.{names_byte, named, considered_in, reported, reads, with_sdus};
 ghost use Rattle.protocol.specs.Reading.{decode};
 ghost use Rattle.protocol.specs.declared.faults.End.TheVariants.{Near};
-ghost use Rattle.rlc_tx.specs.Ends.{near_of, set_by, read_by};
+ghost use Rattle.rlc_tx.specs.Ends.{near_of, set_by, state_of, after, read_by};
 ghost use Rattle.rlc_tx.specs.Touches.{named_sdu};
 ghost use Rattle.rlc_tx.specs.Windows.{sdus_in, bare, with_sdu, Holds};
 ghost use Rattle.wire.specs.Counts.{count_of};
@@ -117,8 +117,7 @@ impl NearEnd {
     /// A report that is not stale.
     fn report(&mut self, ack: RlcCount, entries: Entries)
         requires { count_of ack ≤ (near_of self.old).tx_next }
-        ensures near { near_of self.new ≡ reported (set_by self.old) (count_of ack) (entries_of entries.entry) (near_of self.old) }
-        ensures set { self.new.settings ≡ self.old.settings }
+        ensures { state_of self.new ≡ after (λ s. reported s (count_of ack) (entries_of entries.entry)) (state_of self.old) }
     {
         let touches = self.window.consider_entries(entries);
         self.failed |= self.window.is_exhausted(self.settings.max_retx);
@@ -130,8 +129,7 @@ impl NearEnd {
 
     /// Reads a PDU that has arrived.
     pub fn read(&mut self, bytes: &[u8]) -> Result<Report, Fault>
-        ensures near { (result, near_of self.new) ≡ read_by (reads (set_by self.old) (decode Near bytes.now) (near_of self.old)) (near_of self.old) }
-        ensures set { self.new.settings ≡ self.old.settings }
+        ensures { (result, state_of self.new) ≡ read_by (reads (set_by self.old) (decode Near bytes.now) (near_of self.old)) (state_of self.old) }
     {
         let reader = Reader {
             end: End::Near,

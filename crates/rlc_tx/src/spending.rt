@@ -4,7 +4,7 @@ ghost use Rattle.std.specs.Prelude.{◌≡◌, false, length, Ok};
 ghost use Rattle.protocol.specs.Bytes.{put};
 ghost use Rattle.protocol.specs.Pdus.{amd, encode};
 ghost use Rattle.protocol.specs.Sending.{counted, reached, marked, amd_of_run, spent, polls, spends};
-ghost use Rattle.rlc_tx.specs.Ends.{near_of, set_by, polling_of, spent_by, polled_by};
+ghost use Rattle.rlc_tx.specs.Ends.{near_of, set_by, state_of, after, polling_of, spent_by, polled_by};
 ghost use Rattle.rlc_tx.specs.Plans.{run_of, Serves};
 ghost use Rattle.wire.specs.Counts.{count_of};
 
@@ -35,8 +35,7 @@ impl NearEnd {
     fn mark(&mut self, run: Run)
         requires run { Serves (near_of self.old) 512 (run_of run) }
         requires alive { self.old.failed ≡ false }
-        ensures near { near_of self.new ≡ marked (run_of run) (near_of self.old) }
-        ensures set { self.new.settings ≡ self.old.settings }
+        ensures { state_of self.new ≡ after (λ _. marked (run_of run)) (state_of self.old) }
     {
         self.window.send(run);
     }
@@ -65,8 +64,7 @@ impl NearEnd {
         requires run { Serves (near_of self.old) 512 (run_of plan.run) }
         requires poll { plan.poll ≡ polls (set_by self.old) (run_of plan.run) (near_of self.old) }
         requires alive { self.old.failed ≡ false }
-        ensures near { near_of self.new ≡ spent (set_by self.old) (run_of plan.run) (near_of self.old) }
-        ensures set { self.new.settings ≡ self.old.settings }
+        ensures { state_of self.new ≡ after (λ s. spent s (run_of plan.run)) (state_of self.old) }
     {
         let Plan { run, poll } = plan;
         self.mark(run);
@@ -76,8 +74,7 @@ impl NearEnd {
     /// Sends the PDU that the grant allows, if there is one: it is written at the buffer's start, and its
     /// length is answered.
     pub fn spend(&mut self, grant: Grant, buffer: &mut [u8]) -> Result<usize, Fault>
-        ensures near { (result, near_of self.new, buffer.new) ≡ spent_by (spends (set_by self.old) grant.size (length buffer.old) (near_of self.old)) (near_of self.old) buffer.old }
-        ensures set { self.new.settings ≡ self.old.settings }
+        ensures { (result, state_of self.new, buffer.new) ≡ spent_by (spends (set_by self.old) grant.size (length buffer.old) (near_of self.old)) (state_of self.old) buffer.old }
     {
         let size = grant.size();
         grant.give_back();

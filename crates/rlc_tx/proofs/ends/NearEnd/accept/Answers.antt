@@ -4,7 +4,7 @@ use Rattle.protocol.specs.Searching.{update}
 use Rattle.protocol.specs.Sending.{unsent_sdu, exhausted}
 use Rattle.rlc_tx.proofs.InWindow.{update_each}
 use Rattle.rlc_tx.proofs.ends.NearEnd.accept.Goals as goal
-use Rattle.rlc_tx.specs.Ends.{near_of}
+use Rattle.rlc_tx.specs.Ends.{near_of, set_by}
 use Rattle.rlc_tx.specs.Windows.{sdus_in}
 use Rattle.wire.specs.Counts.{count_of}
 
@@ -28,14 +28,15 @@ returns c =
     let sdu-is = c.new.ensures ∙ ap (λ sn. unsent_sdu (encode_pdcp sn c.args.packet.now)) c.sn.ensures in
     record {
       count = refl;
-      near = λ i.
-          record {
-            pdcp_tx_next = count i;
-            tx_next = c.push.ensures.next i;
-            tx_next_ack = c.push.ensures.first i;
-            sdu = λ y. (c.push.ensures.sdus y ∙ ap (λ s. update (sdus_in n.window) (count_of n.window.tx_next) s y) sdu-is) i;
-            polling = (near_of n).polling;
-            failed = n.failed;
-          };
-      set = refl;
+      state = λ i. (
+        set_by n,
+        record {
+          pdcp_tx_next = count i;
+          tx_next = c.push.ensures.next i;
+          tx_next_ack = c.push.ensures.first i;
+          sdu = λ y. (c.push.ensures.sdus y ∙ ap (λ s. update (sdus_in n.window) (count_of n.window.tx_next) s y) sdu-is) i;
+          polling = (near_of n).polling;
+          failed = n.failed;
+        },
+      );
     }

@@ -4,7 +4,7 @@ use Rattle.rlc_tx.proofs.Failing.{over}
 use Rattle.rlc_tx.proofs.InWindow.{update_each}
 use Rattle.rlc_tx.proofs.OfEnd.{few_sent}
 use Rattle.rlc_tx.proofs.ends.NearEnd.mark.Goals as goal
-use Rattle.rlc_tx.specs.Ends.{near_of}
+use Rattle.rlc_tx.specs.Ends.{near_of, set_by}
 use Rattle.rlc_tx.specs.Windows.{sdus_in}
 use Rattle.wire.specs.Counts.{count_of}
 
@@ -26,4 +26,4 @@ invariant_of-self c =
     }
 
 pub returns : goal.returns
-returns c = let n = c.args.self.now in record { near = ap (over (near_of n) (near_of n).polling n.failed) c.send.ensures; set = refl }
+returns c = let n = c.args.self.now in ap (λ m. (set_by n, over (near_of n) (near_of n).polling n.failed m)) c.send.ensures

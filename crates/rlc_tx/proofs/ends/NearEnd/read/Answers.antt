@@ -5,7 +5,7 @@ use Rattle.protocol.specs.Sending.{Near, reads, reported, tx_count}
 use Rattle.protocol.specs.declared.faults.End.TheVariants as end
 use Rattle.rlc_tx.proofs.Entered.{held_is}
 use Rattle.rlc_tx.proofs.ends.NearEnd.read.Goals as goal
-use Rattle.rlc_tx.specs.Ends.{near_of, set_by, read_by}
+use Rattle.rlc_tx.specs.Ends.{State, near_of, set_by, state_of, after, read_by}
 use Rattle.rlc_tx.specs.declared.ends.Report.TheVariants.{Taken}
 use Rattle.std.proofs.lemmas.Bool.{cond-false, le-ltb, ltb-false}
 use Rattle.wire.specs.Counts.{count_of, sn_of}
@@ -23,9 +23,4 @@ returns c =
     let rule =
     ap (λ a. reads (set_by n) a (near_of n)) pdu
     ∙ ap (λ o. Ok o) (cond-false _ _ _ (le-ltb (near_of n).tx_next (tx_count (near_of n) sn) fresh)) in
-    record {
-      near =
-          ap (λ (m : Near). (Ok Taken, m)) (c.report.ensures.near ∙ ap (λ a. reported (set_by n) a es (near_of n)) count)
-          ∙ ap (λ r. read_by r (near_of n)) (sym rule);
-      set = c.report.ensures.set;
-    }
+    ap (λ (state : State). (Ok Taken, state)) (c.report.ensures ∙ ap (λ a. after (λ s. reported s a es) (state_of n)) count) ∙ ap (λ r. read_by r (state_of n)) (sym rule)

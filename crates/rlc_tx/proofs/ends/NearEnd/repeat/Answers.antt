@@ -28,9 +28,5 @@ returns c =
     let n = c.args.self.now in
     let o = highest_sent (bare n.window) in
     let failed = failed_as n c.repeat_highest.new.self (considered_all o (bare n.window)) c.is_exhausted.result c.repeat_highest.ensures c.is_exhausted.ensures in
-    record {
-      near =
-          (λ i. over (near_of n) (near_of n).polling (failed i) (c.repeat_highest.ensures i))
-          ∙ ap (failed_if (set_by n)) (considered_over (near_of n) (bare n.window) (near_of n).polling n.failed o);
-      set = refl;
-    }
+    (λ i. (set_by n, over (near_of n) (near_of n).polling (failed i) (c.repeat_highest.ensures i)))
+    ∙ ap (λ m. (set_by n, failed_if (set_by n) m)) (considered_over (near_of n) (bare n.window) (near_of n).polling n.failed o)
