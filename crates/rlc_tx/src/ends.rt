@@ -22,7 +22,7 @@ pub(crate) struct Polling {
 }
 
 /// What became of a status report.
-#[derive(Clone, Copy)]
+#[derive(Clone, Copy, Debug, PartialEq, Eq)]
 pub enum Report {
     /// Its ACK count lies beyond TX_Next: it is an old one, and changes nothing.
     Stale,

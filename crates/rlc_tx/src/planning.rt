@@ -15,11 +15,9 @@ use wire::Grant;
 fn count_below(limit: u8, without: u8, new: bool) -> Option<u8>
     ensures { result ≡ unless_reached (Some limit) (counted (Some limit) new without) }
 {
-    let without = u16::from(without) + u16::from(new);
-    if without >= u16::from(limit) {
-        return None;
-    }
-    Some(without as u8)
+    without
+        .checked_add(u8::from(new))
+        .filter(|without| *without < limit)
 }
 
 impl NearEnd {

@@ -1,6 +1,6 @@
 //! Reading a status report.
 
-ghost use Rattle.std.specs.Prelude.{◌≡◌, ℕ, ◌<◌, ◌≤◌, length, nat_lt};
+ghost use Rattle.std.specs.Prelude.{◌≡◌, ℕ, ◌<◌, ◌≤◌, nat_lt};
 ghost use Rattle.rlc_tx.specs.Touches.{named_of, settled, settled_to, counted_of, counted_if, touch_at, named_touch, entered, touched};
 ghost use Rattle.protocol.specs.Numbers.{stale};
 ghost use Rattle.protocol.specs.Sending.{names_byte, named, considered_in, reported, reads, with_sdus};
@@ -14,6 +14,7 @@ ghost use Rattle.wire.specs.Views.{missing_of, entry_of, entries_of};
 
 use crate::ends::{NearEnd, Report};
 use crate::windows::{Window, place};
+use protocol::WINDOW_SIZE;
 use wire::{End, Entries, Entry, Fault, Pdu, Reader, Refusal, RlcCount};
 
 /// What the entries of a report read so far say of an SDU.
@@ -62,9 +63,8 @@ impl Window {
     }
 
     /// One entry.
-    fn consider_entry(&mut self, touches: &mut [Touch; 16], entry: Entry)
+    fn consider_entry(&mut self, touches: &mut [Touch; WINDOW_SIZE], entry: Entry)
         ensures sdus { bare self.new ≡ with_sdus (bare self.old) (entered (bare self.old) (entry_of entry) touches.old) }
-        ensures places { length touches.new ≡ 16 }
         ensures touches { (x : ℕ) → Holds self.old x → touch_at touches.new x ≡ touched (bare self.old) (entry_of entry) touches.old x }
     {
         let Some(count) = entry.nack_sn.rlc_count(self.tx_next_ack) else {
@@ -78,11 +78,11 @@ impl Window {
     }
 
     /// All entries, in order. Answers what is noted of each SDU.
-    fn consider_entries(&mut self, entries: Entries) -> [Touch; 16]
+    fn consider_entries(&mut self, entries: Entries) -> [Touch; WINDOW_SIZE]
         ensures sdus { bare self.new ≡ with_sdus (bare self.old) (considered_in (bare self.old) (entries_of entries.entry)) }
         ensures named { (x : ℕ) → Holds self.old x → named_of (touch_at result x) ≡ named (bare self.old) (entries_of entries.entry) x }
     {
-        let mut touches = [Touch::Unnamed; 16];
+        let mut touches = [Touch::Unnamed; WINDOW_SIZE];
         for entry in entries {
             self.consider_entry(&mut touches, entry);
         }
@@ -103,7 +103,7 @@ impl Window {
     }
 
     /// Every SDU that a report acknowledges.
-    fn acknowledge_all(&mut self, ack: RlcCount, touches: &[Touch; 16])
+    fn acknowledge_all(&mut self, ack: RlcCount, touches: &[Touch; WINDOW_SIZE])
         ensures { bare self.new ≡ with_sdus (bare self.old) (settled_to (count_of self.old.tx_next_ack) (count_of self.old.tx_next) (count_of ack) touches.now (sdus_in self.old)) }
     {
         for k in 0..self.len() {

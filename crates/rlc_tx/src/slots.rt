@@ -200,16 +200,11 @@ impl Slot {
         ensures { segment_of result ≡ segment_at run.from run.size (length (sdu_of self.now).bytes) }
     {
         let so = run.from as u16;
-        if run.from == 0 {
-            if run.size == self.size {
-                Segment::Whole
-            } else {
-                Segment::First
-            }
-        } else if run.from + run.size == self.size {
-            Segment::Last { so }
-        } else {
-            Segment::Middle { so }
+        match (run.from == 0, run.from + run.size == self.size) {
+            (true, true) => Segment::Whole,
+            (true, false) => Segment::First,
+            (false, true) => Segment::Last { so },
+            (false, false) => Segment::Middle { so },
         }
     }
 

@@ -16,7 +16,7 @@ loop-entry-preserved c =
     let more : map entry_of (c.loop-entry.yielded ++ c.in-Some.entry ∷ []) ≡ done ++ e ∷ [] = map-append entry_of c.loop-entry.yielded (c.in-Some.entry ∷ []) in (
       subst (λ es. Stage c.args.self.now es c.consider_entry.new.self c.consider_entry.new.touches) (sym more)
           (stage_more c.args.self.now c.loop-entry.self c.consider_entry.new.self done e c.loop-entry.touches c.consider_entry.new.touches c.loop-entry.invariant.0
-          c.consider_entry.ensures.sdus c.consider_entry.ensures.places c.consider_entry.ensures.touches),
+          c.consider_entry.ensures.sdus c.consider_entry.array_long c.consider_entry.ensures.touches),
       ap (λ es. es ++ entries_of c.next.new.self) more ∙ append_assoc done (e ∷ []) (entries_of c.next.new.self)
           ∙ ap (λ es. done ++ es) (sym c.in-Some.ensures.steps) ∙ c.loop-entry.invariant.1,
     )

@@ -27,7 +27,6 @@ returns c =
     let at : get_or touches place Unnamed ≡ touch_at touches count = ap (λ i. get_or touches i Unnamed) c.place-place.ensures in
     record {
       sdus = c.consider_named.ensures.sdus ∙ same_sdus (bare w) _ _ (entered_as w e touches count is held (get_or touches place Unnamed) at);
-      places = length-set touches place c.consider_named.result ∙ c.told-touches;
       touches =
           touched_as w e touches count is held place c.consider_named.result c.told-touches c.place-place.ensures
           (c.consider_named.ensures.touch ∙ ap (λ t. named_touch (names_byte e.missing) (counted_of t) (sdus_in w count)) at);
