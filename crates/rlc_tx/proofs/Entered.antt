@@ -1,17 +1,15 @@
 -- One entry of a status report, at the slot of its count.
-use Rattle.std.proofs.Common.{◌≡◌, ℕ, ◌%◌, ◌^◌, ◌<◌, ◌≤◌, Bool, true, false, cond, eqb, ltb, List, length, set, Some, None, sym, refl, ap, ◌∙◌, ⊎_elim, arith}
-use Rattle.protocol.proofs.Rings.{ring_update}
+use Rattle.std.proofs.Common.{◌≡◌, ℕ, ◌^◌, Bool, true, false, cond, ltb, List, Some, None, sym, refl, ap, ◌∙◌, ⊎_elim, arith}
 use Rattle.protocol.specs.Pdus.{Entry}
 use Rattle.protocol.specs.Searching.{update}
 use Rattle.protocol.specs.Sending.{Sdu, names_byte, tx_count}
 use Rattle.rlc_tx.proofs.Planned.{same_some, none_some}
 use Rattle.rlc_tx.specs.Considered.{considered_next}
-use Rattle.rlc_tx.specs.Touches.{counted_of, touch_at, named_sdu, named_touch, entered, touched}
+use Rattle.rlc_tx.specs.Touches.{counted_of, touch_at, named_sdu, entered}
 use Rattle.rlc_tx.specs.Windows.{sdus_in, bare, Holds}
 use Rattle.rlc_tx.specs.declared.reporting.Touch.{Touch}
-use Rattle.rlc_tx.specs.declared.reporting.Touch.TheVariants.{Unnamed}
 use Rattle.rlc_tx.specs.declared.windows.Window.{Window}
-use Rattle.std.proofs.lemmas.Bool.{cases_eq, cond-true, cond-false, lt-ltb, eq-eqb, ne_eqb, and_from, and_left, and_right, not_from_true, not_from_false}
+use Rattle.std.proofs.lemmas.Bool.{cases_eq, cond-true, cond-false, lt-ltb, eq-eqb, ne_eqb, and_from, and_right, not_from_false}
 use Rattle.wire.specs.Counts.{count_of, held}
 
 -- a count that 32 bits hold
@@ -35,11 +33,6 @@ module _ (count : ℕ) (names : ℕ → Bool) (counted : Bool) (sdu : ℕ → Sd
           cond-true _ _ _ (eq-eqb x count same) ∙ ap (λ y. considered_next counted names (sdu y)) (sym same)
           ∙ sym (cond-true _ _ _ (and_from _ _ (not_from_false _ (ap (λ y. (sdu y).acknowledged) same ∙ open_now)) (eq-eqb count x (sym same))))
 
-  pub named_never : (sdu count).acknowledged ≡ true → (x : ℕ) → sdu x ≡ named_sdu count names counted sdu x
-  named_never closed x =
-      ⊎_elim (λ (same : count ≡ x). sym (cond-false _ _ _ (and_left _ _ (not_from_true _ (ap (λ y. (sdu y).acknowledged) (sym same) ∙ closed)))))
-      (λ d. sym (unnamed count names counted sdu x d)) (cases_eq count x)
-
 module _ (w : Window) (e : Entry) (touches : List Touch) (count : ℕ) (is : count ≡ tx_count (bare w) e.nack_sn) (held : Holds w count) where
   abbrev sdu : ℕ → Sdu
   sdu = sdus_in w
@@ -62,19 +55,3 @@ module _ (w : Window) (e : Entry) (touches : List Touch) (count : ℕ) (is : cou
               → cond b (named_sdu (tx_count (bare w) e.nack_sn) (names_byte e.missing) (counted_of (touch_at touches x)) sdu x) (sdu x) ≡ sdu x
           both true h = h
           both false h = refl
-
-  pub touched_as : (place : ℕ) (r : Touch) → length touches ≡ 16 → place ≡ count % 16
-      → r ≡ named_touch (names_byte e.missing) (counted_of (touch_at touches count)) (sdus_in w count)
-      → (x : ℕ) → Holds w x → touch_at (set touches place r) x ≡ touched (bare w) e touches x
-  touched_as place r size at new x here_too =
-      ap (λ i. touch_at (set touches i r) x) at
-      ∙ ring_update touches (count_of w.tx_next_ack) count x r Unnamed size held.from (omega (arith, held.to, w.bounded)) here_too.from (omega (arith, here_too.to, w.bounded))
-      ∙ ⊎_elim here other (cases_eq x count)
-    where
-      here : x ≡ count → cond (eqb x count) r (touch_at touches x) ≡ touched (bare w) e touches x
-      here same =
-          cond-true _ _ _ (eq-eqb x count same) ∙ new ∙ ap (λ y. named_touch (names_byte e.missing) (counted_of (touch_at touches y)) (sdu y)) (sym same)
-          ∙ sym (cond-true _ _ _ (eq-eqb (tx_count (bare w) e.nack_sn) x (sym is ∙ sym same)))
-
-      other : (x ≡ count → ⊥) → cond (eqb x count) r (touch_at touches x) ≡ touched (bare w) e touches x
-      other d = cond-false _ _ _ (ne_eqb x count d) ∙ sym (cond-false _ _ _ (ne_eqb (tx_count (bare w) e.nack_sn) x (λ f. d (sym f ∙ sym is))))

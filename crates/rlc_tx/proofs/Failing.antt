@@ -5,7 +5,7 @@ use Rattle.protocol.specs.Settings.{Settings}
 use Rattle.rlc_tx.proofs.InWindow.{below, beyond}
 use Rattle.rlc_tx.proofs.OfEnd.{bare_ordered}
 use Rattle.rlc_tx.proofs.Served.{InOrder, found_none, window_any}
-use Rattle.rlc_tx.specs.Ends.{near_of, set_by}
+use Rattle.rlc_tx.specs.Ends.{set_by}
 use Rattle.rlc_tx.specs.Slots.{sdu_of}
 use Rattle.rlc_tx.specs.Searches.{first_in, exhausted_in}
 use Rattle.rlc_tx.specs.Windows.{sdus_in, bare, Untired}

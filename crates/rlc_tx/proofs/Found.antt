@@ -1,5 +1,5 @@
 -- Where a search in the window ends, or the window itself.
-use Rattle.std.proofs.Common.{◌≡◌, ℕ, ◌-◌, ◌<◌, ◌≤◌, Bool, true, false, not, Some, None, Option, unwrap_or, sym, refl, ap, ◌∙◌, arith}
+use Rattle.std.proofs.Common.{◌≡◌, ℕ, ◌-◌, ◌≤◌, Bool, true, false, not, Some, None, Option, unwrap_or, sym, refl, ap, ◌∙◌, arith}
 use Rattle.protocol.proofs.Marks.{begun}
 use Rattle.protocol.specs.Searching.{seek}
 use Rattle.protocol.specs.Sending as near

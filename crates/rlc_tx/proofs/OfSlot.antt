@@ -2,12 +2,11 @@
 use Rattle.std.proofs.Common.{◌≡◌, ℕ, ◌+◌, ◌≤◌, Bool, true, false, List, length, take, Some, None, Option, refl, ap, ◌∙◌, arith}
 use Rattle.protocol.specs.Sending as near
 use Rattle.rlc_tx.proofs.Marked.{Marked}
-use Rattle.rlc_tx.specs.Marks.{is_pending, Begun, Unbegun, NoneBelow, pending_in, bounded}
+use Rattle.rlc_tx.specs.Marks.{Begun, Unbegun, NoneBelow, pending_in, bounded}
 use Rattle.rlc_tx.specs.Plans.{run_at}
 use Rattle.rlc_tx.specs.declared.marks.Mark.{Mark}
 use Rattle.rlc_tx.specs.declared.slots.Slot.{Slot}
 use Rattle.std.proofs.lemmas.List.{length-take-le}
-use Rattle.std.proofs.lemmas.List.Sums.{count_by-le-length}
 use Rattle.std.proofs.lemmas.Bool.{le-leb, leb-true}
 
 pub marked : (s : Slot) → Marked s.marks s.size s.sent s.pending s.low
@@ -25,9 +24,6 @@ marked s =
 
 pub long : (s : Slot) → length (take s.size s.bytes) ≡ s.size
 long s = length-take-le s.size s.bytes (omega (arith, s.stored, s.short))
-
-pub few_pending : (s : Slot) → s.pending ≤ 502
-few_pending s = omega (arith, s.counted, count_by-le-length is_pending s.marks, s.placed)
 
 -- the facts of a slot's type, in their order
 pub facts : {Stored Few : Type 0} {ms : List Mark} {size sent pending low : ℕ} → Stored → Marked ms size sent pending low → Few

@@ -1,15 +1,13 @@
 -- How far the entries of a status report were considered.
-use Rattle.std.proofs.Common.{◌≡◌, ℕ, zero, suc, ◌<◌, ◌≤◌, Bool, true, false, cond, not, ◌&&◌, ◌||◌, eqb, ltb, List, [], ◌∷◌, ◌++◌, length, get_or, replicate, Some, None, Option, sym, refl, ap, ◌∙◌, subst, arith}
+use Rattle.std.proofs.Common.{◌≡◌, ℕ, Bool, true, false, cond, not, ◌&&◌, ◌||◌, eqb, ltb, List, [], ◌∷◌, ◌++◌, length, sym, refl, ap, ◌∙◌, subst, arith}
 use Rattle.protocol.specs.Pdus.{Entry}
 use Rattle.protocol.specs.Sending as near
 use Rattle.rlc_tx.proofs.InWindow.{same_sdus}
-use Rattle.rlc_tx.proofs.Planned.{same_some, none_some}
 use Rattle.rlc_tx.proofs.Stages.{considered_again, counted_again}
 use Rattle.rlc_tx.specs.Considered.{counts, considered_next, counted_by}
 use Rattle.rlc_tx.specs.Touches.{named_of, counted_of, counted_if, touch_at, named_touch, entered, touched}
 use Rattle.rlc_tx.specs.Windows.{sdus_in, bare, Holds}
 use Rattle.rlc_tx.specs.declared.reporting.Touch.{Touch}
-use Rattle.rlc_tx.specs.declared.reporting.Touch.TheVariants.{Unnamed}
 use Rattle.rlc_tx.specs.declared.windows.Window.{Window}
 use Rattle.std.proofs.lemmas.Bool.{both_ways, cond-true, cond-false, lt-ltb, ltb-true, eqb-true}
 use Rattle.wire.specs.Counts.{count_of}
@@ -107,9 +105,6 @@ and_right_false true = refl
 and_right_false false = refl
 
 module _ (s : near.Sdu) (named : Bool) (bytes more : ℕ → Bool) (t : Touch) where
-  abbrev now_named : Bool → ℕ → Bool
-  now_named hit i = bytes i || (hit && more i)
-
   nothing_new : (λ i. bytes i || (false && more i)) ≡ bytes
   nothing_new = λ k. λ i. or_right_false (bytes i) k
 
@@ -158,20 +153,6 @@ pub record Stage (before : Window) (es : List Entry) (w : Window) (touches : Lis
   pub places : length touches ≡ 16
   pub sdus : bare w ≡ near.with_sdus (bare before) (near.considered_in (bare before) es)
   pub noted : (x : ℕ) → Holds before x → Noted (near.named (bare before) es x) (near.named_byte (bare before) es x) (sdus_in before x) (touch_at touches x)
-
--- none yet
-pub stage_none : (w : Window) (touches : List Touch) → length touches ≡ 16 → ((x : ℕ) → touch_at touches x ≡ Unnamed) → Stage w [] w touches
-stage_none w touches size none =
-    record {
-      places = size;
-      sdus = same_sdus (bare w) _ _ (λ x. sym (cond-false _ _ _ (nothing (ltb x (count_of w.tx_next)) (sdus_in w x).acknowledged)));
-      noted = λ x held. subst (Noted false (λ i. false) (sdus_in w x)) (sym (none x)) (record { names = refl; changed = λ open_now. refl });
-    }
-  where
-    nothing : (a b : Bool) → (a && (not b && false)) ≡ false
-    nothing true true = refl
-    nothing true false = refl
-    nothing false b = refl
 
 module _ (before w after : Window) (es : List Entry) (e : Entry) (touches touches_after : List Touch) (stage : Stage before es w touches) where
   abbrev n : near.Near
@@ -227,8 +208,3 @@ module _ (before w after : Window) (es : List Entry) (e : Entry) (touches touche
             subst (Noted (near.named n (es ++ e ∷ []) x) (near.named_byte n (es ++ e ∷ []) x) (n.sdu x)) (sym (touches_are x (held_now x held) ∙ ap (λ m. touched m e touches x) stage.sdus))
             (noted_now x held);
       }
-
-pub all_unnamed : (k i : ℕ) → get_or (replicate k Unnamed) i Unnamed ≡ Unnamed
-all_unnamed zero i = refl
-all_unnamed (suc k) zero = refl
-all_unnamed (suc k) (suc i) = all_unnamed k i

@@ -3,16 +3,16 @@
 ghost use Rattle.std.specs.Prelude.{◌≡◌, ℕ, ◌<◌, ◌≤◌, nat_lt};
 ghost use Rattle.rlc_tx.specs.Touches.{named_of, settled, settled_to, counted_of, counted_if, touch_at, named_touch, entered, touched};
 ghost use Rattle.protocol.specs.Numbers.{stale};
-ghost use Rattle.protocol.specs.Sending.{names_byte, named, considered_in, reported, reads, with_sdus};
+ghost use Rattle.protocol.specs.Sending.{answered, names_byte, named, considered_in, reported, reads, with_sdus};
 ghost use Rattle.protocol.specs.Reading.{decode};
 ghost use Rattle.protocol.specs.declared.faults.End.TheVariants.{Near};
-ghost use Rattle.rlc_tx.specs.Ends.{near_of, set_by, state_of, after, read_by};
+ghost use Rattle.rlc_tx.specs.Ends.{near_of, polling_of, set_by, state_of, after, read_by};
 ghost use Rattle.rlc_tx.specs.Touches.{named_sdu};
 ghost use Rattle.rlc_tx.specs.Windows.{sdus_in, bare, with_sdu, Holds};
 ghost use Rattle.wire.specs.Counts.{count_of};
 ghost use Rattle.wire.specs.Views.{missing_of, entry_of, entries_of};
 
-use crate::ends::{NearEnd, Report};
+use crate::ends::{NearEnd, Polling, Report};
 use crate::windows::{Window, place};
 use protocol::WINDOW_SIZE;
 use wire::{End, Entries, Entry, Fault, Pdu, Reader, Refusal, RlcCount};
@@ -113,6 +113,15 @@ impl Window {
     }
 }
 
+impl Polling {
+    /// t-PollRetransmit stops if a report of this ACK count answers the last poll.
+    fn note_report(&mut self, ack: RlcCount)
+        ensures { polling_of self.new ≡ answered (count_of ack) (polling_of self.old) }
+    {
+        self.t_poll_retransmit.stop_if(self.poll_sn < ack);
+    }
+}
+
 impl NearEnd {
     /// A report that is not stale.
     fn report(&mut self, ack: RlcCount, entries: Entries)
@@ -123,8 +132,7 @@ impl NearEnd {
         self.failed |= self.window.is_exhausted(self.settings.max_retx);
         self.window.acknowledge_all(ack, &touches);
         self.window.advance();
-        let answered = self.polling.poll_sn < ack;
-        self.polling.t_poll_retransmit.stop_if(answered);
+        self.polling.note_report(ack);
     }
 
     /// Reads a PDU that has arrived.

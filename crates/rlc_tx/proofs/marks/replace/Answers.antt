@@ -1,21 +1,8 @@
-use Rattle.std.proofs.Common.{◌+◌, cond, ◌++◌, map, get_or, take, drop, set, count_by, sym, ap, ◌∙◌, arith}
+use Rattle.std.proofs.Common.{◌+◌, cond, get_or, set, sym, ap, ◌∙◌}
 use Rattle.rlc_tx.proofs.Replaced.{same_is, replaced_more}
 use Rattle.rlc_tx.proofs.marks.replace.Goals as goal
 use Rattle.rlc_tx.proofs.marks.replace.Goals.{then-eq, else-eq}
-use Rattle.rlc_tx.specs.Marks.{same, replaced}
 use Rattle.rlc_tx.specs.declared.marks.Mark.TheVariants.{Unsent}
-use Rattle.std.proofs.lemmas.List.{take_all, drop_all, append-nil, length-take-le}
-use Rattle.std.proofs.lemmas.List.Sums.{count_by-le-length}
-
-pub overflow_add-changed : goal.overflow_add-changed
-overflow_add-changed c =
-    omega (
-      arith,
-      c.loop-mark.invariant.1,
-      count_by-le-length (same c.args.old) (take c.loop-mark.mark-index c.args.marks.now),
-      length-take-le c.loop-mark.mark-index c.args.marks.now c.loop-mark.auto.mark-index-end,
-      c.loop-mark-test.true,
-    )
 
 pub loop-mark-preserved : goal.loop-mark-preserved
 loop-mark-preserved c =
@@ -33,15 +20,3 @@ loop-mark-preserved c =
         w.changed-is ∙ ap (λ b. cond b (c.loop-mark.changed + 1) c.loop-mark.changed) (sym w.if-eq.false) ∙ more.1,
       )
     ]
-
-pub returns : goal.returns
-returns c =
-    let i = c.loop-mark.mark-index in
-    let ms = c.args.marks.now in
-    let f = replaced c.args.old c.args.new in
-    record {
-      after =
-          c.loop-mark.invariant.0 ∙ ap (λ xs. map f xs ++ drop i ms) (take_all i ms c.loop-mark-test.false)
-          ∙ ap (λ xs. map f ms ++ xs) (drop_all i ms c.loop-mark-test.false) ∙ append-nil (map f ms);
-      changed = c.loop-mark.invariant.1 ∙ ap (count_by (same c.args.old)) (take_all i ms c.loop-mark-test.false);
-    }

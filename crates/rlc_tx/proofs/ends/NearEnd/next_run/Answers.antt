@@ -2,18 +2,12 @@ use Rattle.std.proofs.Common.{Some, None, sym, ap, ◌∙◌, true, false, rules
 use Rattle.protocol.specs.Sending as near
 use Rattle.rlc_tx.proofs.Found.{found_by}
 use Rattle.rlc_tx.proofs.OfEnd.{ordered}
-use Rattle.rlc_tx.proofs.Served.{found_at, served_pending, served_unsent}
+use Rattle.rlc_tx.proofs.Served.{served_pending, served_unsent}
 use Rattle.rlc_tx.proofs.ends.NearEnd.next_run.Goals as goal
 use Rattle.rlc_tx.specs.Ends.{near_of}
 use Rattle.rlc_tx.specs.Plans.{run_of, run_at}
 use Rattle.std.specs.Option.{option_map}
 use Rattle.wire.specs.Counts.{count_of}
-
-pub pending_run-requires : goal.pending_run-requires
-pending_run-requires c =
-    let n = c.args.self.now in
-    let found = found_by _ _ n.window (λ x. near.has near.is_pending) (Some (count_of c.in-Some.count)) c.in-Some.ensures (λ count slot b at p. search rules) in
-    ap (near.has near.is_pending) c.slot.ensures ∙ (found_at _ _ _ n.window.ordered (count_of c.in-Some.count) (sym found)).2
 
 pub returns-in-Some : goal.returns-in-Some
 returns-in-Some c =

@@ -1,7 +1,7 @@
 use Rattle.std.proofs.Common.{◌≡◌, ◌≤◌, Ok, sym, ap, ◌∙◌, arith}
 use Rattle.protocol.specs.Pdus.{status}
 use Rattle.protocol.specs.Reading.{decode}
-use Rattle.protocol.specs.Sending.{Near, reads, reported, tx_count}
+use Rattle.protocol.specs.Sending.{reads, reported, tx_count}
 use Rattle.protocol.specs.declared.faults.End.TheVariants as end
 use Rattle.rlc_tx.proofs.Entered.{held_is}
 use Rattle.rlc_tx.proofs.ends.NearEnd.read.Goals as goal

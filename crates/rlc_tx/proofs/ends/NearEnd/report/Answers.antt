@@ -1,12 +1,10 @@
-use Rattle.std.proofs.Common.{◌≡◌, ℕ, ◌||◌, ltb, sym, refl, ap, ◌∙◌, rules}
+use Rattle.std.proofs.Common.{ℕ, ◌||◌, sym, ap, ◌∙◌}
 use Rattle.protocol.specs.Sending.{Near, with_sdus, considered_in}
-use Rattle.protocol.specs.Timers.{stopped_if}
 use Rattle.rlc_tx.proofs.Failing.{over, failed_as, still_untired}
 use Rattle.rlc_tx.proofs.Reported.{window_after, untired_after}
 use Rattle.rlc_tx.proofs.ends.NearEnd.report.Goals as goal
 use Rattle.rlc_tx.specs.Ends.{near_of, set_by}
 use Rattle.rlc_tx.specs.Windows.{bare}
-use Rattle.timers.specs.Views.{timer_of}
 use Rattle.wire.specs.Counts.{count_of}
 use Rattle.wire.specs.Views.{entries_of}
 
@@ -34,17 +32,9 @@ returns c =
     let ack = count_of c.args.ack in
     let after =
     window_after n.window considered.new.self c.acknowledge_all.new.self c.advance.new.self considered.result ack es considered.ensures.sdus c.acknowledge_all.ensures c.advance.ensures c.requires considered.ensures.named in
-    let told : c.lt-answered.result ≡ ltb (count_of n.polling.poll_sn) ack = search rules in
-    let timer = c.stop_if.ensures ∙ ap (λ b. stopped_if b (timer_of n.polling.t_poll_retransmit)) told in
     let failed = failed_as n considered.new.self (with_sdus (bare n.window) (considered_in (bare n.window) es)) c.is_exhausted.result considered.ensures.sdus c.is_exhausted.ensures in
     λ i. (
       set_by n,
       over (near_of n)
-          (record {
-            poll_sn = (near_of n).polling.poll_sn;
-            pdu_without_poll = (near_of n).polling.pdu_without_poll;
-            owed = (near_of n).polling.owed;
-            t_poll_retransmit = timer i;
-          })
-          (failed i) (after i),
+          (c.note_report.ensures i) (failed i) (after i),
     )

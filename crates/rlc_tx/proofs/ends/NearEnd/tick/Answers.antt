@@ -1,4 +1,4 @@
-use Rattle.std.proofs.Common.{not, sym, refl, ap, ◌∙◌, rules}
+use Rattle.std.proofs.Common.{not, sym, ap, ◌∙◌, rules}
 use Rattle.protocol.specs.Sending.{has, considered_all, highest_sent, failed_if}
 use Rattle.rlc_tx.proofs.Found.{found_by}
 use Rattle.rlc_tx.proofs.OfEnd.{ordered}

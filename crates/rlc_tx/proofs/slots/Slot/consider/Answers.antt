@@ -1,25 +1,12 @@
-use Rattle.std.proofs.Common.{◌≡◌, ◌+◌, ◌-◌, true, false, take, sym, ap, ◌∙◌, subst, arith}
+use Rattle.std.proofs.Common.{◌≡◌, ◌+◌, true, false, take, sym, ap, ◌∙◌, subst}
 use Rattle.protocol.specs.Sending.{names_byte}
 use Rattle.rlc_tx.proofs.Changes.{pended}
 use Rattle.rlc_tx.proofs.Considers.{considered_marks, newly_is, still_bounded}
-use Rattle.rlc_tx.proofs.OfSlot.{marked, facts, few_pending, bounded_more}
-use Rattle.rlc_tx.proofs.Ranges.{count_within}
+use Rattle.rlc_tx.proofs.OfSlot.{marked, facts}
 use Rattle.rlc_tx.proofs.slots.Slot.consider.Goals as goal
 use Rattle.rlc_tx.specs.Considered.{counted_once, has_counted}
-use Rattle.rlc_tx.specs.Marks.{is_sent, bounded}
-use Rattle.std.proofs.lemmas.List.Sums.{count_by-le-length}
+use Rattle.rlc_tx.specs.Marks.{bounded}
 use Rattle.wire.specs.Views.{missing_of}
-
-pub raised-self-requires : goal.raised-self-requires
-raised-self-requires c =
-    let s = c.args.self.now in
-    bounded_more false s.pending 502 s.retx_count (few_pending s) (subst (λ a. bounded a s.pending s.retx_count ≡ true) c.requires s.few)
-
-pub overflow_add-self : goal.overflow_add-self
-overflow_add-self c =
-    let s = c.args.self.now in
-    let from = c.named-start.result.start in
-    omega (arith, few_pending s, c.replace-newly.ensures.changed, count_within is_sent s.marks from (c.named-start.result.end - from), count_by-le-length is_sent s.marks, s.placed)
 
 pub invariant_of-self : goal.invariant_of-self
 invariant_of-self c =

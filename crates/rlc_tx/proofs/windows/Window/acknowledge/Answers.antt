@@ -2,7 +2,6 @@ use Rattle.std.proofs.Common.{ap, ◌∙◌}
 use Rattle.protocol.specs.Sending.{acknowledge}
 use Rattle.rlc_tx.proofs.InWindow.{stands_at, changed_at}
 use Rattle.rlc_tx.proofs.windows.Window.acknowledge.Goals as goal
-use Rattle.std.proofs.lemmas.List.{length-set}
 use Rattle.wire.specs.Counts.{count_of}
 
 pub returns : goal.returns

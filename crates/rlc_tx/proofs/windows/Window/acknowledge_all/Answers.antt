@@ -1,5 +1,5 @@
-use Rattle.std.proofs.Common.{◌≡◌, ◌+◌, get_or, refl, ap, ◌∙◌, arith}
-use Rattle.protocol.specs.Sending.{Near, with_sdus}
+use Rattle.std.proofs.Common.{◌≡◌, ◌+◌, get_or, refl, ap, ◌∙◌}
+use Rattle.protocol.specs.Sending.{Near}
 use Rattle.rlc_tx.proofs.InWindow.{same_sdus}
 use Rattle.rlc_tx.proofs.Settled.{settled_more}
 use Rattle.rlc_tx.proofs.windows.Window.acknowledge_all.Goals as goal
@@ -21,9 +21,3 @@ loop-k-preserved c =
     ∙ same_sdus (bare w) _ _
     (settled_more (count_of w.tx_next_ack) c.loop-k.k ack count touches (sdus_in w) (settled_to (count_of w.tx_next_ack) (count_of w.tx_next_ack + c.loop-k.k) ack touches (sdus_in w)) touch at
     (ap (λ i. get_or touches i Unnamed) c.place.ensures) (λ x. refl))
-
-pub returns : goal.returns
-returns c =
-    let w = c.args.self.now in
-    let all : count_of w.tx_next_ack + c.loop-k.k ≡ count_of w.tx_next = omega (arith, c.loop-k-test.false, c.len-k-end.ensures, c.loop-k.auto, w.ordered) in
-    c.loop-k.invariant ∙ ap (λ next. with_sdus (bare w) (settled_to (count_of w.tx_next_ack) next (count_of c.args.ack) c.args.touches.now (sdus_in w))) all

@@ -1,5 +1,5 @@
 use Rattle.std.proofs.Common.{◌≡◌, ℕ, ◌-◌, Bool, false, cond, not, ltb, map, ap, ◌∙◌, arith, rules}
-use Rattle.protocol.proofs.Seeks.{seek_from, seek_to}
+use Rattle.protocol.proofs.Seeks.{seek_from}
 use Rattle.protocol.specs.Searching.{seek}
 use Rattle.protocol.specs.Sending.{new_near, gone}
 use Rattle.rlc_tx.proofs.Found.{found_by, unwrap_mapped, ends}
@@ -24,14 +24,6 @@ start w = seek (is_open w) (count_of w.tx_next - count_of w.tx_next_ack) (count_
 start_is : (w : Window) (found : Option (Count Rlc)) (count : Count Rlc) → count ≡ unwrap_or found w.tx_next
     → option_map count_of found ≡ first_in (is_open w) (count_of w.tx_next_ack) (count_of w.tx_next) → count_of count ≡ start w
 start_is w found count is e = ap count_of is ∙ unwrap_mapped count_of found w.tx_next ∙ ends (is_open w) _ _ w.ordered (option_map count_of found) e
-
-pub invariant_of-self : goal.invariant_of-self
-invariant_of-self c =
-    let w = c.args.self.now in
-    let at = start_is w c.first.result c.unwrap_or-self.result c.unwrap_or-self.ensures (found_by _ _ w (λ x s. not s.acknowledged) (option_map count_of c.first.result) c.first.ensures (λ count slot b at p. search rules)) in
-    let from = seek_from (is_open w) (count_of w.tx_next - count_of w.tx_next_ack) (count_of w.tx_next_ack) in
-    let to = seek_to (is_open w) (count_of w.tx_next - count_of w.tx_next_ack) (count_of w.tx_next_ack) in
-    record { ordered = omega (arith, at, to, w.ordered); bounded = omega (arith, at, from, w.bounded); few = w.few; ring = w.ring }
 
 pub returns : goal.returns
 returns c =

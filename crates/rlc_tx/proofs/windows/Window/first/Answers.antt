@@ -19,6 +19,3 @@ loop-k-preserved g c x from to =
     let at : count_of c.count-count.result ≡ x = c.count-count.ensures ∙ sym e in
     record { count = c.count-count.result; is = at; slot = c.slot.result; shows = c.slot.ensures ∙ ap (sdus_in c.args.self.now) at; says = record { met = c.if-wanted.ensures } })
     (λ d. c.loop-k.invariant x from (omega (arith, to, d))) (cases_eq x (count_of c.args.self.now.tx_next_ack + c.loop-k.k))
-
-pub returns : goal.returns
-returns g c x held = c.loop-k.invariant x held.from (omega (arith, held.to, c.loop-k-test.false, c.len-k-end.ensures))

@@ -1,11 +1,10 @@
-use Rattle.std.proofs.Common.{◌≡◌, ℕ, ◌+◌, ◌-◌, false, Some, sym, ap, ◌∙◌, ⊎_elim, arith}
+use Rattle.std.proofs.Common.{◌≡◌, ℕ, ◌+◌, ◌-◌, false, Some, sym, ap, ◌∙◌, arith}
 use Rattle.protocol.specs.Sending.{Sdu}
 use Rattle.rlc_tx.proofs.Highest.{highest_found, highest_none}
 use Rattle.rlc_tx.proofs.OfEnd.{bare_ordered}
 use Rattle.rlc_tx.proofs.Served.{top_to}
 use Rattle.rlc_tx.proofs.windows.Window.highest.Goals as goal
 use Rattle.rlc_tx.specs.Windows.{bare}
-use Rattle.std.proofs.lemmas.Bool.{cases_eq}
 use Rattle.wire.specs.Counts.{count_of}
 
 pub count-count-requires : goal.count-count-requires
@@ -29,16 +28,6 @@ returns-then-not-is_acknowledged c =
     ∙ sym
     (highest_found n k (omega (arith, c.value.ensures, c.value-2.ensures, c.loop-k-test.true, c.loop-k.auto))
     (λ j lo hi. c.loop-k.invariant j (omega (arith, lo)) (omega (arith, hi, c.value.ensures, c.value-2.ensures))) open_here)
-
-pub loop-k-preserved : goal.loop-k-preserved
-loop-k-preserved c j lo hi =
-    let n = bare c.args.self.now in
-    let k = c.loop-k.k - 1 in
-    let at : count_of c.count-count.result ≡ n.tx_next_ack + k = c.count-count.ensures in
-    ⊎_elim
-    (λ (e : j ≡ k).
-    ap (λ i. (n.sdu (n.tx_next_ack + i)).acknowledged) e ∙ ap (λ x. (n.sdu x).acknowledged) (sym at) ∙ ap (λ (s : Sdu). s.acknowledged) (sym c.slot.ensures) ∙ sym c.if-not-is_acknowledged.ensures)
-    (λ d. c.loop-k.invariant j (omega (arith, lo, d)) hi) (cases_eq j k)
 
 pub returns : goal.returns
 returns c =
