@@ -35,9 +35,13 @@ pub record Front (test : protocol.Mark → Bool) (s : protocol.Sdu) (from size :
   pub some : 1 ≤ size
   pub inside : from + size ≤ length s.bytes
 
+-- ... as a run of an SDU is
+abbrev pub Leads : protocol.Run → protocol.Sdu → Type 0
+Leads run s = Front (served_as run.new) s run.from run.size
+
 -- a run that is served lies in the window, and fits its grant
 pub record Serves (n : protocol.Near) (grant : ℕ) (run : protocol.Run) : Type 0 where
-  pub front : Front (served_as run.new) (n.sdu run.count) run.from run.size
+  pub front : Leads run (n.sdu run.count)
   pub low : n.tx_next_ack ≤ run.count
   pub high : run.count < n.tx_next
   pub fits : cond (run.from == 0) 2 4 + run.size ≤ grant

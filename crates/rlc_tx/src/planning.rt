@@ -3,7 +3,7 @@
 ghost use Rattle.std.specs.Prelude.{◌≡◌, ◌+◌, ◌≤◌, true, false, ◌||◌, Some};
 ghost use Rattle.protocol.specs.Sending.{served, counted, nothing_to_send, marked, polls};
 ghost use Rattle.rlc_tx.specs.Ends.{near_of, set_by, unless_reached};
-ghost use Rattle.rlc_tx.specs.Plans.{run_of, plan_of, planned, served_as, Front};
+ghost use Rattle.rlc_tx.specs.Plans.{run_of, plan_of, planned, Leads};
 ghost use Rattle.std.specs.Option.{option_map};
 ghost use Rattle.wire.specs.Counts.{count_of};
 
@@ -45,7 +45,7 @@ impl NearEnd {
 
     /// Whether nothing is to be sent once this run was.
     fn is_last(&self, run: Run) -> bool
-        requires { Front (served_as run.new) ((near_of self.now).sdu (count_of run.count)) run.from run.size }
+        requires { Leads (run_of run) ((near_of self.now).sdu (count_of run.count)) }
         ensures { result ≡ nothing_to_send (marked (run_of run) (near_of self.now)) }
     {
         self.window
@@ -55,7 +55,7 @@ impl NearEnd {
 
     /// P: enough PDUs went without one, nothing is left to send, or a poll is owed.
     fn is_poll(&self, run: Run) -> bool
-        requires { Front (served_as run.new) ((near_of self.now).sdu (count_of run.count)) run.from run.size }
+        requires { Leads (run_of run) ((near_of self.now).sdu (count_of run.count)) }
         ensures { result ≡ polls (set_by self.now) (run_of run) (near_of self.now) }
     {
         let reached = self.without_poll(run.new).is_none();

@@ -71,7 +71,7 @@ fn has_changed(retx_count: Option<u16>, counted: bool, newly: bool) -> bool
 }
 
 impl Slot {
-    ghost use Rattle.rlc_tx.specs.Plans.{run_of, run_at, served_as, Front};
+    ghost use Rattle.rlc_tx.specs.Plans.{run_of, run_at, Leads};
     ghost use Rattle.rlc_tx.specs.Slots.{sdu_of};
 
     /// An SDU of which nothing was sent: the first `size` of these bytes.
@@ -196,7 +196,7 @@ impl Slot {
 
     /// Which segment of it a run is.
     pub(crate) fn segment(&self, run: Run) -> Segment
-        requires { Front (served_as run.new) (sdu_of self.now) run.from run.size }
+        requires { Leads (run_of run) (sdu_of self.now) }
         ensures { segment_of result ≡ segment_at run.from run.size (length (sdu_of self.now).bytes) }
     {
         let so = run.from as u16;
@@ -210,7 +210,7 @@ impl Slot {
 
     /// The bytes of a run.
     pub(crate) fn data(&self, run: Run) -> &[u8]
-        requires { Front (served_as run.new) (sdu_of self.now) run.from run.size }
+        requires { Leads (run_of run) (sdu_of self.now) }
         ensures { result.now ≡ take run.size (drop run.from (sdu_of self.now).bytes) }
     {
         let Run { from, size, .. } = run;
@@ -220,7 +220,7 @@ impl Slot {
 
     /// A run of its bytes was sent. What is sent again was not sent too often before.
     pub(crate) fn send(&mut self, run: Run)
-        requires front { Front (served_as run.new) (sdu_of self.old) run.from run.size }
+        requires front { Leads (run_of run) (sdu_of self.old) }
         requires few { bounded self.old.acknowledged 0 self.old.retx_count ≡ true }
         ensures { sdu_of self.new ≡ sent_run (run_of run) (sdu_of self.old) }
     {

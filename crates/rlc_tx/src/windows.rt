@@ -35,7 +35,7 @@ pub(crate) struct Window {
 }
 
 impl Window {
-    ghost use Rattle.rlc_tx.specs.Plans.{run_of, served_as, Front};
+    ghost use Rattle.rlc_tx.specs.Plans.{run_of, Leads};
     ghost use Rattle.rlc_tx.specs.Slots.{sdu_of};
     ghost use Rattle.rlc_tx.specs.Searches.{GivesAt, IsFirst, exhausted_in};
     ghost use Rattle.rlc_tx.specs.Windows.{bare, sdus_in, with_sdu, Holds};
@@ -149,7 +149,7 @@ impl Window {
     /// A run of bytes was sent.
     pub(crate) fn send(&mut self, run: Run)
         requires held { Holds self.old (count_of run.count) }
-        requires front { Front (served_as run.new) (sdus_in self.old (count_of run.count)) run.from run.size }
+        requires front { Leads (run_of run) (sdus_in self.old (count_of run.count)) }
         requires few { bounded (sdus_in self.old (count_of run.count)).acknowledged 0 (sdus_in self.old (count_of run.count)).retx_count ≡ true }
         ensures { bare self.new ≡ marked (run_of run) (bare self.old) }
     {
