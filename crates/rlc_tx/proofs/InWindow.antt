@@ -4,13 +4,13 @@ use Rattle.protocol.proofs.Marks.{seek_is}
 use Rattle.protocol.proofs.Rings.{ring_update}
 use Rattle.protocol.specs.Rings.{in_ring}
 use Rattle.protocol.specs.Searching.{seek, update}
-use Rattle.protocol.specs.Sending.{Sdu, gone, none_yet}
+use Rattle.protocol.specs.Sending.{Sdu, Near, gone, none_yet, with_sdus}
 use Rattle.rlc_tx.specs.Slots.{sdu_of}
-use Rattle.rlc_tx.specs.Soughts.{first_in}
-use Rattle.rlc_tx.specs.Windows.{sdu_at, sdus_in}
+use Rattle.rlc_tx.specs.Searches.{first_in}
+use Rattle.rlc_tx.specs.Windows.{sdu_at, sdus_in, bare, with_sdu, Holds}
 use Rattle.rlc_tx.specs.declared.slots.Slot.{Slot}
 use Rattle.rlc_tx.specs.declared.windows.Window.{Window}
-use Rattle.wire.specs.Views.{count_of}
+use Rattle.wire.specs.Counts.{count_of}
 use Rattle.std.proofs.lemmas.List.{get_or-map, length-map, map-set}
 use Rattle.std.proofs.lemmas.Bool.{cases_lt, cases_eq, cond-true, cond-false, cond_both, lt-ltb, le-ltb, eq-eqb, ne_eqb}
 
@@ -23,6 +23,10 @@ module _ (sdus : List Sdu) (first next : ℕ) where
 
   pub beyond : (x : ℕ) → first ≤ x → next ≤ x → sdu_at sdus first next x ≡ none_yet
   beyond x lo hi = cond-false _ _ _ (le-ltb x first lo) ∙ cond-false _ _ _ (le-ltb x next hi)
+
+-- SDUs that are equal one by one
+pub same_sdus : (n : Near) (f g : ℕ → Sdu) → ((x : ℕ) → f x ≡ g x) → with_sdus n f ≡ with_sdus n g
+same_sdus n f g same = ap (with_sdus n) (λ i. λ x. same x i)
 
 -- the slot of a count
 pub slot_inside : (slots : List Slot) (first next x : ℕ) (d : Slot) → length slots ≡ 16 → first ≤ x → x < next
@@ -57,23 +61,17 @@ slot_set slots first next x slot size lo hi window y = ⊎_elim under (λ from. 
 
 module _ (test : ℕ → Bool) (first next : ℕ) (order : first ≤ next) where
   -- it ends at the first that passes
-  pub first_is : (k : ℕ) → first + k < next → ((j : ℕ) → j < k → test (first + j) ≡ false) → test (first + k) ≡ true → first_in test first next ≡ Some (first + k)
-  first_is k in_window before at =
-      cond-true _ _ _ (lt-ltb _ next (omega (arith, here, in_window))) ∙ ap (λ n. Some n) here
+  pub first_is : (k : ℕ) → first ≤ k → k < next → ((x : ℕ) → first ≤ x → x < k → test x ≡ false) → test k ≡ true → first_in test first next ≡ Some k
+  first_is k from to before at = cond-true _ _ _ (lt-ltb _ next (omega (arith, here, to))) ∙ ap (λ n. Some n) here
     where
-      here : seek test (next - first) first ≡ first + k
-      here =
-          seek_is test (next - first) first (first + k) (omega arith) (omega (arith, in_window))
-          (λ j lo hi. ap test (omega (arith, lo)) ∙ before (j - first) (omega (arith, lo, hi))) (λ l. at)
+      here : seek test (next - first) first ≡ k
+      here = seek_is test (next - first) first k from (omega (arith, to)) before (λ l. at)
 
-  pub first_none : ((j : ℕ) → j < next - first → test (first + j) ≡ false) → first_in test first next ≡ None
-  first_none before =
-      cond-false _ _ _ (le-ltb _ next (omega (arith, here, order)))
+  pub first_none : ((x : ℕ) → first ≤ x → x < next → test x ≡ false) → first_in test first next ≡ None
+  first_none before = cond-false _ _ _ (le-ltb _ next (omega (arith, here, order)))
     where
       here : seek test (next - first) first ≡ next
-      here =
-          seek_is test (next - first) first next order (omega (arith, order))
-          (λ j lo hi. ap test (omega (arith, lo)) ∙ before (j - first) (omega (arith, lo, hi))) (λ l. absurd (omega (arith, l, order)))
+      here = seek_is test (next - first) first next order (omega (arith, order)) before (λ l. absurd (omega (arith, l, order)))
 
 -- a slot more
 pub slot_given : (slots : List Slot) (first next : ℕ) (slot : Slot) → length slots ≡ 16 → first ≤ next → next < first + 16
@@ -95,13 +93,17 @@ pub update_each : (P : Sdu → Type 0) (f : ℕ → Sdu) (x : ℕ) (s : Sdu) →
 update_each P f x s was now y = cond_both (eqb y x) s (f y) P (λ e. now) (λ e. was y)
 
 -- the slot of a count in a window, and that slot changed
-module _ (slots : List Slot) (w : Window) (x place : ℕ) (size : length slots ≡ 16) (at : place ≡ x % 16) (from : count_of w.tx_next_ack ≤ x) (to : x < count_of w.tx_next) where
-  pub stands_at : (d : Slot) → sdu_of (get_or slots place d) ≡ sdus_in slots w x
-  stands_at d = ap (λ i. sdu_of (get_or slots i d)) at ∙ slot_inside slots _ _ x d size from to
+module _ (w : Window) (x place : ℕ) (at : place ≡ x % 16) (held : Holds w x) where
+  pub stands_at : (d : Slot) → sdu_of (get_or w.slots place d) ≡ sdus_in w x
+  stands_at d = ap (λ i. sdu_of (get_or w.slots i d)) at ∙ slot_inside w.slots _ _ x d w.ring held.from held.to
 
-  pub changed_at : (slot : Slot) (s : Sdu) → sdu_of slot ≡ s → (y : ℕ) → sdus_in (set slots place slot) w y ≡ update (sdus_in slots w) x s y
-  changed_at slot s is y =
-      ap (λ i. sdus_in (set slots i slot) w y) at ∙ slot_set slots _ _ x slot size from to w.bounded y ∙ ap (λ t. update (sdus_in slots w) x t y) is
+  pub changed_at : (slot : Slot) (s : Sdu) → sdu_of slot ≡ s
+      → with_sdus (bare w) (sdu_at (map sdu_of (set w.slots place slot)) (count_of w.tx_next_ack) (count_of w.tx_next)) ≡ with_sdu (bare w) x s
+  changed_at slot s is =
+      same_sdus (bare w) _ _
+      (λ y.
+      ap (λ i. sdu_at (map sdu_of (set w.slots i slot)) (count_of w.tx_next_ack) (count_of w.tx_next) y) at
+      ∙ slot_set w.slots _ _ x slot w.ring held.from held.to w.bounded y ∙ ap (λ t. update (sdus_in w) x t y) is)
 
 -- a window that begins later
 pub slid : (sdus : List Sdu) (first next to : ℕ) → first ≤ to → (x : ℕ) → sdu_at sdus to next x ≡ cond (ltb x to) gone (sdu_at sdus first next x)

@@ -7,7 +7,7 @@ pub mod OfSlot
 pub mod Sends
 pub mod Considers
 pub mod InWindow
-pub mod Given
+pub mod Found
 pub mod Served
 pub mod OfEnd
 pub mod Written
@@ -18,5 +18,6 @@ pub mod Ticked
 pub mod Entered
 pub mod Stages
 pub mod Progress
+pub mod Touched
 pub mod Settled
 pub mod Reported

@@ -1,11 +1,12 @@
 -- What a slot's type says of its marks.
-use Rattle.std.proofs.Common.{◌≡◌, ℕ, ◌+◌, ◌≤◌, Bool, true, false, List, length, take, Some, None, Option, refl, arith}
+use Rattle.std.proofs.Common.{◌≡◌, ℕ, ◌+◌, ◌≤◌, Bool, true, false, List, length, take, Some, None, Option, refl, ap, ◌∙◌, arith}
+use Rattle.protocol.specs.Sending as near
 use Rattle.rlc_tx.proofs.Marked.{Marked}
-use Rattle.rlc_tx.specs.Marks.{is_pending, Begun, Unbegun, NoneBelow, pending_in, bounded}
+use Rattle.rlc_tx.specs.Marks.{Begun, Unbegun, NoneBelow, pending_in, bounded}
+use Rattle.rlc_tx.specs.Plans.{run_at}
 use Rattle.rlc_tx.specs.declared.marks.Mark.{Mark}
 use Rattle.rlc_tx.specs.declared.slots.Slot.{Slot}
 use Rattle.std.proofs.lemmas.List.{length-take-le}
-use Rattle.std.proofs.lemmas.List.Sums.{count_by-le-length}
 use Rattle.std.proofs.lemmas.Bool.{le-leb, leb-true}
 
 pub marked : (s : Slot) → Marked s.marks s.size s.sent s.pending s.low
@@ -23,9 +24,6 @@ marked s =
 
 pub long : (s : Slot) → length (take s.size s.bytes) ≡ s.size
 long s = length-take-le s.size s.bytes (omega (arith, s.stored, s.short))
-
-pub few_pending : (s : Slot) → s.pending ≤ 502
-few_pending s = omega (arith, s.counted, count_by-le-length is_pending s.marks, s.placed)
 
 -- the facts of a slot's type, in their order
 pub facts : {Stored Few : Type 0} {ms : List Mark} {size sent pending low : ℕ} → Stored → Marked ms size sent pending low → Few
@@ -54,6 +52,13 @@ facts stored m few =
       none_below = m.none_below;
       few = few;
     }
+
+-- the first run of such bytes
+pub run_is : (new : Bool) (test : near.Mark → Bool) (s : near.Sdu) (grant count from size : ℕ) → from ≡ near.byte_from test s 0 → size ≡ near.run_from test s from grant
+    → ◌≡◌ {A = near.Run} (record { count = count; from = from; size = size; new = new }) (run_at new test s grant count)
+run_is new test s grant count from size first long =
+    let most = long ∙ ap (λ f. near.run_from test s f grant) first in
+    λ i. record { count = count; from = first i; size = most i; new = new }
 
 -- more may be pending
 pub bounded_more : (acknowledged : Bool) (few many : ℕ) (retx_count : Option ℕ) → few ≤ many → bounded acknowledged few retx_count ≡ true → bounded acknowledged many retx_count ≡ true

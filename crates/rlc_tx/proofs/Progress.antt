@@ -1,18 +1,16 @@
 -- How far the entries of a status report were considered.
-use Rattle.std.proofs.Common.{◌≡◌, ℕ, zero, suc, ◌<◌, ◌≤◌, Bool, true, false, cond, not, ◌&&◌, ◌||◌, eqb, ltb, List, [], ◌∷◌, ◌++◌, length, get_or, replicate, Some, None, Option, sym, refl, ap, ◌∙◌, subst, arith}
+use Rattle.std.proofs.Common.{◌≡◌, ℕ, Bool, true, false, cond, not, ◌&&◌, ◌||◌, eqb, ltb, List, [], ◌∷◌, ◌++◌, length, sym, refl, ap, ◌∙◌, subst, arith}
 use Rattle.protocol.specs.Pdus.{Entry}
 use Rattle.protocol.specs.Sending as near
-use Rattle.rlc_tx.proofs.Planned.{same_some, none_some}
+use Rattle.rlc_tx.proofs.InWindow.{same_sdus}
 use Rattle.rlc_tx.proofs.Stages.{considered_again, counted_again}
 use Rattle.rlc_tx.specs.Considered.{counts, considered_next, counted_by}
-use Rattle.rlc_tx.specs.Touches.{named_of, counted_of, counted_if, touch_at, entry_count, named_touch, entered, touched}
-use Rattle.rlc_tx.specs.Windows.{sdus_in, bare}
-use Rattle.rlc_tx.specs.declared.slots.Slot.{Slot}
-use Rattle.rlc_tx.specs.declared.touches.Touch.{Touch}
-use Rattle.rlc_tx.specs.declared.touches.Touch.TheVariants.{Unnamed}
+use Rattle.rlc_tx.specs.Touches.{named_of, counted_of, counted_if, touch_at, named_touch, entered, touched}
+use Rattle.rlc_tx.specs.Windows.{sdus_in, bare, Holds}
+use Rattle.rlc_tx.specs.declared.reporting.Touch.{Touch}
 use Rattle.rlc_tx.specs.declared.windows.Window.{Window}
 use Rattle.std.proofs.lemmas.Bool.{both_ways, cond-true, cond-false, lt-ltb, ltb-true, eqb-true}
-use Rattle.wire.specs.Views.{count_of, front}
+use Rattle.wire.specs.Counts.{count_of}
 
 -- names of one entry more ---------------------------------------------------------------------------------------------
 
@@ -107,9 +105,6 @@ and_right_false true = refl
 and_right_false false = refl
 
 module _ (s : near.Sdu) (named : Bool) (bytes more : ℕ → Bool) (t : Touch) where
-  abbrev now_named : Bool → ℕ → Bool
-  now_named hit i = bytes i || (hit && more i)
-
   nothing_new : (λ i. bytes i || (false && more i)) ≡ bytes
   nothing_new = λ k. λ i. or_right_false (bytes i) k
 
@@ -154,83 +149,62 @@ module _ (s : near.Sdu) (named : Bool) (bytes more : ℕ → Bool) (t : Touch) w
       }
 
 -- the window after some entries
-pub record Stage (slots₀ : List Slot) (w : Window) (es : List Entry) (slots : List Slot) (touches : List Touch) : Type 0 where
+pub record Stage (before : Window) (es : List Entry) (w : Window) (touches : List Touch) : Type 0 where
   pub places : length touches ≡ 16
-  pub sdus : (x : ℕ) → sdus_in slots w x ≡ near.considered_in (bare slots₀ w) es x
-  pub noted : (x : ℕ) → count_of w.tx_next_ack ≤ x → x < count_of w.tx_next
-      → Noted (near.named (bare slots₀ w) es x) (near.named_byte (bare slots₀ w) es x) (sdus_in slots₀ w x) (touch_at touches x)
+  pub sdus : bare w ≡ near.with_sdus (bare before) (near.considered_in (bare before) es)
+  pub noted : (x : ℕ) → Holds before x → Noted (near.named (bare before) es x) (near.named_byte (bare before) es x) (sdus_in before x) (touch_at touches x)
 
--- none yet
-pub stage_none : (slots : List Slot) (w : Window) (touches : List Touch) → length touches ≡ 16 → ((x : ℕ) → touch_at touches x ≡ Unnamed) → Stage slots w [] slots touches
-stage_none slots w touches size none =
-    record {
-      places = size;
-      sdus = λ x. sym (cond-false _ _ _ (nothing (ltb x (count_of w.tx_next)) (sdus_in slots w x).acknowledged));
-      noted = λ x lo hi. subst (Noted false (λ i. false) (sdus_in slots w x)) (sym (none x)) (record { names = refl; changed = λ open_now. refl });
-    }
-  where
-    nothing : (a b : Bool) → (a && (not b && false)) ≡ false
-    nothing true true = refl
-    nothing true false = refl
-    nothing false b = refl
-
-module _ (slots₀ slots after : List Slot) (w : Window) (es : List Entry) (e : Entry) (touches touches_after : List Touch) (stage : Stage slots₀ w es slots touches) where
+module _ (before w after : Window) (es : List Entry) (e : Entry) (touches touches_after : List Touch) (stage : Stage before es w touches) where
   abbrev n : near.Near
-  n = bare slots₀ w
+  n = bare before
 
   abbrev so_far : ℕ → ℕ → Bool
   so_far x = near.named_byte n es x
 
+  abbrev hit : ℕ → Bool
+  hit x = eqb (near.tx_count n e.nack_sn) x
+
   abbrev was : ℕ → near.Sdu
-  was x = staged (ltb x (count_of w.tx_next)) (sdus_in slots₀ w x).acknowledged (near.named n es x) (so_far x) (sdus_in slots₀ w x)
+  was x = staged (ltb x n.tx_next) (n.sdu x).acknowledged (near.named n es x) (so_far x) (n.sdu x)
 
   now_is : (x : ℕ)
-      → staged (ltb x (count_of w.tx_next)) (sdus_in slots₀ w x).acknowledged (near.named n es x || eqb (entry_count w e) x)
-      (λ i. near.named_byte n es x i || (eqb (entry_count w e) x && near.names_byte e.missing i)) (sdus_in slots₀ w x)
-      ≡ near.considered_in n (es ++ e ∷ []) x
+      → staged (ltb x n.tx_next) (n.sdu x).acknowledged (near.named n es x || hit x) (λ i. so_far x i || (hit x && near.names_byte e.missing i)) (n.sdu x) ≡ near.considered_in n (es ++ e ∷ []) x
   now_is x =
       sym
-      (ap (λ b. staged (ltb x (count_of w.tx_next)) (sdus_in slots₀ w x).acknowledged b (near.named_byte n (es ++ e ∷ []) x) (sdus_in slots₀ w x)) (named_more n e x es)
-      ∙ ap (λ f. staged (ltb x (count_of w.tx_next)) (sdus_in slots₀ w x).acknowledged (near.named n es x || eqb (entry_count w e) x) f (sdus_in slots₀ w x)) (λ k. λ i. bytes_more n e x es i k))
+      (ap (λ b. staged (ltb x n.tx_next) (n.sdu x).acknowledged b (near.named_byte n (es ++ e ∷ []) x) (n.sdu x)) (named_more n e x es)
+      ∙ ap (λ f. staged (ltb x n.tx_next) (n.sdu x).acknowledged (near.named n es x || hit x) f (n.sdu x)) (λ k. λ i. bytes_more n e x es i k))
 
   -- where it is hit, it is in the window
-  hit_from : (x : ℕ) → eqb (entry_count w e) x ≡ true → count_of w.tx_next_ack ≤ x
-  hit_from x h = omega (arith, eqb-true (entry_count w e) x h)
+  held_hit : (x : ℕ) → ltb x n.tx_next ≡ true → hit x ≡ true → Holds before x
+  held_hit x inside h = record { from = omega (arith, eqb-true (near.tx_count n e.nack_sn) x h); to = ltb-true x n.tx_next inside }
 
-  pub stage_more : ((x : ℕ) → sdus_in after w x ≡ entered w e touches (sdus_in slots w) x) → length touches_after ≡ 16
-      → ((x : ℕ) → count_of w.tx_next_ack ≤ x → x < count_of w.tx_next → touch_at touches_after x ≡ touched w e touches (sdus_in slots w) x)
-      → Stage slots₀ w (es ++ e ∷ []) after touches_after
+  entered_more : (x : ℕ) → entered (near.with_sdus n (near.considered_in n es)) e touches x ≡ near.considered_in n (es ++ e ∷ []) x
+  entered_more x =
+      staged_more (n.sdu x) (near.named n es x) (so_far x) (near.names_byte e.missing) (touch_at touches x) (ltb x n.tx_next) (n.sdu x).acknowledged (hit x) refl
+      (λ inside h open_now. staged_named (n.sdu x) (near.named n es x) (so_far x) (near.names_byte e.missing) (λ f i. unnamed_bytes n es x i f) (touch_at touches x) (stage.noted x (held_hit x inside h)) open_now)
+      ∙ now_is x
+
+  noted_now : (x : ℕ) → Holds before x → Noted (near.named n (es ++ e ∷ []) x) (near.named_byte n (es ++ e ∷ []) x) (n.sdu x) (touched (near.with_sdus n (near.considered_in n es)) e touches x)
+  noted_now x held =
+      subst (λ b. Noted b (near.named_byte n (es ++ e ∷ []) x) (n.sdu x) (cond (hit x) (named_touch (near.names_byte e.missing) (counted_of (touch_at touches x)) (was x)) (touch_at touches x))) (sym (named_more n e x es))
+      (subst (λ f. Noted (near.named n es x || hit x) f (n.sdu x) (cond (hit x) (named_touch (near.names_byte e.missing) (counted_of (touch_at touches x)) (was x)) (touch_at touches x))) (sym (λ k. λ i. bytes_more n e x es i k))
+      (noted_more (n.sdu x) (near.named n es x) (so_far x) (near.names_byte e.missing) (touch_at touches x) (ltb x n.tx_next) (n.sdu x).acknowledged (hit x) (lt-ltb x n.tx_next held.to) refl (stage.noted x held)
+      (λ h open_now. counted_named (n.sdu x) (near.named n es x) (so_far x) (near.names_byte e.missing) (λ f i. unnamed_bytes n es x i f) (touch_at touches x) (stage.noted x held) open_now)))
+
+  -- counts stay
+  held_now : (x : ℕ) → Holds before x → Holds w x
+  held_now x held =
+      let first : count_of w.tx_next_ack ≡ count_of before.tx_next_ack = ap (λ (m : near.Near). m.tx_next_ack) stage.sdus in
+      let next : count_of w.tx_next ≡ count_of before.tx_next = ap (λ (m : near.Near). m.tx_next) stage.sdus in
+      record { from = omega (arith, first, held.from); to = omega (arith, next, held.to) }
+
+  pub stage_more : bare after ≡ near.with_sdus (bare w) (entered (bare w) e touches) → length touches_after ≡ 16
+      → ((x : ℕ) → Holds w x → touch_at touches_after x ≡ touched (bare w) e touches x) → Stage before (es ++ e ∷ []) after touches_after
   stage_more changes size touches_are =
       record {
         places = size;
-        sdus = λ x.
-            changes x ∙ ap (λ s. cond (ltb x (count_of w.tx_next)) (cond (not s.acknowledged && eqb (entry_count w e) x) (considered_next (counted_of (touch_at touches x)) (near.names_byte e.missing) s) s) s) (stage.sdus x)
-            ∙ staged_more (sdus_in slots₀ w x) (near.named n es x) (so_far x) (near.names_byte e.missing) (touch_at touches x) (ltb x (count_of w.tx_next)) (sdus_in slots₀ w x).acknowledged (eqb (entry_count w e) x) refl
-            (λ inside hit open_now.
-            staged_named (sdus_in slots₀ w x) (near.named n es x) (so_far x) (near.names_byte e.missing) (λ h i. unnamed_bytes n es x i h) (touch_at touches x)
-            (stage.noted x (hit_from x hit) (ltb-true x (count_of w.tx_next) inside)) open_now)
-            ∙ now_is x;
-        noted = λ x lo hi.
-            subst (Noted (near.named n (es ++ e ∷ []) x) (near.named_byte n (es ++ e ∷ []) x) (sdus_in slots₀ w x)) (sym (touches_are x lo hi))
-            (subst (λ s. Noted (near.named n (es ++ e ∷ []) x) (near.named_byte n (es ++ e ∷ []) x) (sdus_in slots₀ w x) (cond (eqb (entry_count w e) x) (named_touch (near.names_byte e.missing) (counted_of (touch_at touches x)) s) (touch_at touches x))) (sym (stage.sdus x))
-            (subst (λ b. Noted b (near.named_byte n (es ++ e ∷ []) x) (sdus_in slots₀ w x) (cond (eqb (entry_count w e) x) (named_touch (near.names_byte e.missing) (counted_of (touch_at touches x)) (was x)) (touch_at touches x))) (sym (named_more n e x es))
-            (subst (λ f. Noted (near.named n es x || eqb (entry_count w e) x) f (sdus_in slots₀ w x) (cond (eqb (entry_count w e) x) (named_touch (near.names_byte e.missing) (counted_of (touch_at touches x)) (was x)) (touch_at touches x))) (sym (λ k. λ i. bytes_more n e x es i k))
-            (noted_more (sdus_in slots₀ w x) (near.named n es x) (so_far x) (near.names_byte e.missing) (touch_at touches x) (ltb x (count_of w.tx_next)) (sdus_in slots₀ w x).acknowledged (eqb (entry_count w e) x)
-            (lt-ltb x (count_of w.tx_next) hi) refl (stage.noted x lo hi)
-            (λ hit open_now. counted_named (sdus_in slots₀ w x) (near.named n es x) (so_far x) (near.names_byte e.missing) (λ h i. unnamed_bytes n es x i h) (touch_at touches x) (stage.noted x lo hi) open_now)))));
+        sdus = changes ∙ ap (λ m. near.with_sdus m (entered m e touches)) stage.sdus ∙ same_sdus n _ _ entered_more;
+        noted = λ x held.
+            subst (Noted (near.named n (es ++ e ∷ []) x) (near.named_byte n (es ++ e ∷ []) x) (n.sdu x)) (sym (touches_are x (held_now x held) ∙ ap (λ m. touched m e touches x) stage.sdus))
+            (noted_now x held);
       }
-
--- the cursor over the entries -----------------------------------------------------------------------------------------
-
-pub front_some : (xs rest : List Entry) (e : Entry) → ◌≡◌ {A = Option Entry × List Entry} (Some e, rest) (front xs) → xs ≡ e ∷ rest
-front_some [] rest e is = absurd (none_some e (ap (λ p. p.0) is))
-front_some (x ∷ xs) rest e is = let same = same_some e x (ap (λ p. p.0) is) in ap (λ y. y ∷ xs) (sym same) ∙ ap (λ ys. e ∷ ys) (sym (ap (λ p. p.1) is))
-
-pub front_none : (xs rest : List Entry) → ◌≡◌ {A = Option Entry × List Entry} (None, rest) (front xs) → xs ≡ []
-front_none [] rest is = refl
-front_none (x ∷ xs) rest is = absurd (none_some x (sym (ap (λ p. p.0) is)))
-
-pub all_unnamed : (k i : ℕ) → get_or (replicate k Unnamed) i Unnamed ≡ Unnamed
-all_unnamed zero i = refl
-all_unnamed (suc k) zero = refl
-all_unnamed (suc k) (suc i) = all_unnamed k i

@@ -1,11 +1,25 @@
 -- Marks replaced one by one.
-use Rattle.std.proofs.Common.{◌≡◌, ℕ, ◌+◌, ◌-◌, ◌<◌, Bool, true, false, cond, List, ◌++◌, map, length, get_or, take, drop, set, count_by, sym, ap, ◌∙◌, arith}
+use denote.Enum.Bare.{sameb}
+use Rattle.std.proofs.Common.{◌≡◌, ℕ, ◌+◌, ◌-◌, ◌<◌, Bool, true, false, cond, List, ◌++◌, map, length, get_or, take, drop, set, count_by, sym, refl, ap, ◌∙◌, arith}
 use Rattle.rlc_tx.specs.Marks.{same, replaced}
 use Rattle.rlc_tx.specs.declared.marks.Mark.{Mark}
-use Rattle.rlc_tx.specs.declared.marks.Mark.TheVariants.{Unsent}
+use Rattle.rlc_tx.specs.declared.marks.Mark.TheVariants.{Unsent, Sent, Pending}
+use Rattle.rlc_tx.specs.contracts.marks.Mark.{the_type}
 use Rattle.std.proofs.lemmas.List.Edits.{map_over_more}
 use Rattle.std.proofs.lemmas.List.{get_or_default, get_or-drop, get_or-append_right, length-map, length-take-le}
 use Rattle.std.proofs.lemmas.List.Sums.{count_by_more_yes, count_by_more_no}
+
+-- equality of marks
+pub same_is : (old m : Mark) → sameb the_type m old ≡ same old m
+same_is Unsent Unsent = refl
+same_is Unsent Sent = refl
+same_is Unsent Pending = refl
+same_is Sent Unsent = refl
+same_is Sent Sent = refl
+same_is Sent Pending = refl
+same_is Pending Unsent = refl
+same_is Pending Sent = refl
+same_is Pending Pending = refl
 
 -- what a list holds behind its first i marks, once those were replaced
 ahead : (f : Mark → Mark) (ms ys : List Mark) (i : ℕ) → i < length ms → ys ≡ map f (take i ms) ++ drop i ms → get_or ys i Unsent ≡ get_or ms i Unsent

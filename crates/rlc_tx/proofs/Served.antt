@@ -7,7 +7,7 @@ use Rattle.protocol.specs.Searching.{seek}
 use Rattle.protocol.specs.Sending as near
 use Rattle.rlc_tx.specs.Plans.{Front, Serves, served_as}
 use Rattle.rlc_tx.proofs.Marked.{seek_same}
-use Rattle.rlc_tx.specs.Soughts.{left, first_in}
+use Rattle.rlc_tx.specs.Searches.{left, first_in}
 use Rattle.std.proofs.lemmas.Bool.{both_ways, cases_lt, cond-true, cond-false, lt-ltb, le-ltb, ltb-true, ltb-false, eq-eqb, ne_eqb, eqb-true, not-false, not_from_false, not_from_true}
 use Rattle.std.specs.Option.{option_map}
 

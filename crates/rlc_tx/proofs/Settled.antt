@@ -3,13 +3,21 @@ use Rattle.std.proofs.Common.{◌≡◌, ℕ, ◌+◌, ◌<◌, ◌≤◌, Bool,
 use Rattle.protocol.specs.Pdus.{Entry}
 use Rattle.protocol.specs.Searching.{update}
 use Rattle.protocol.specs.Sending as near
+use Rattle.rlc_tx.proofs.InWindow.{same_sdus}
 use Rattle.rlc_tx.specs.Touches.{named_of, touch_at, settled, settled_to}
-use Rattle.rlc_tx.specs.Windows.{bare}
-use Rattle.rlc_tx.specs.declared.slots.Slot.{Slot}
-use Rattle.rlc_tx.specs.declared.touches.Touch.{Touch}
+use Rattle.rlc_tx.specs.Windows.{sdus_in, bare, with_sdu, Holds}
+use Rattle.rlc_tx.specs.declared.reporting.Touch.{Touch}
 use Rattle.rlc_tx.specs.declared.windows.Window.{Window}
 use Rattle.std.proofs.lemmas.Bool.{cases_lt, cases_eq, cond-true, cond-false, lt-ltb, le-ltb, le-leb, lt-leb, eq-eqb, ne_eqb, and_from, and_left, and_right}
-use Rattle.wire.specs.Views.{count_of}
+use Rattle.wire.specs.Counts.{count_of}
+
+-- an SDU that is not acknowledged stays
+pub unsettled : (w : Window) (x : ℕ) (below named : Bool) → (below && (not named && not (near.has near.is_unsent (sdus_in w x)))) ≡ false
+    → bare w ≡ with_sdu (bare w) x (settled below named (sdus_in w x))
+unsettled w x below named stays =
+    same_sdus (bare w) _ _
+    (λ y.
+    ⊎_elim (λ (same : y ≡ x). sym (cond-true _ _ _ (eq-eqb y x same) ∙ cond-false _ _ _ stays ∙ ap (sdus_in w) (sym same))) (λ d. sym (cond-false _ _ _ (ne_eqb y x d))) (cases_eq y x))
 
 -- one more
 pub settled_more : (first k ack count : ℕ) (touches : List Touch) (sdu after : ℕ → near.Sdu) (t : Touch) → count ≡ first + k → t ≡ touch_at touches count
@@ -34,25 +42,25 @@ settled_more first k ack count touches sdu after t at is so_far x = ⊎_elim her
         one_more = ⊎_elim (λ l. lt-ltb _ _ l ∙ sym (lt-ltb x (first + (k + 1)) (omega (arith, l)))) (λ l. le-ltb _ _ l ∙ sym (le-ltb x (first + (k + 1)) (omega (arith, l, at, d)))) (cases_lt x (first + k))
 
 -- outside the window a report acknowledges nothing
-module _ (slots : List Slot) (w : Window) (ack : ℕ) (inside : ack ≤ count_of w.tx_next) (es : List Entry) (touches : List Touch) (sdu : ℕ → near.Sdu)
+module _ (w : Window) (ack : ℕ) (inside : ack ≤ count_of w.tx_next) (es : List Entry) (touches : List Touch) (sdu : ℕ → near.Sdu)
     (gone_below : (x : ℕ) → x < count_of w.tx_next_ack → sdu x ≡ near.gone)
-    (names : (x : ℕ) → count_of w.tx_next_ack ≤ x → x < count_of w.tx_next → named_of (touch_at touches x) ≡ near.named (bare slots w) es x) where
-  pub settled_is : (x : ℕ) → settled_to (count_of w.tx_next_ack) (count_of w.tx_next) ack touches sdu x ≡ near.acknowledged_in (bare slots w) ack es x (sdu x)
+    (names : (x : ℕ) → Holds w x → named_of (touch_at touches x) ≡ near.named (bare w) es x) where
+  pub settled_is : (x : ℕ) → settled_to (count_of w.tx_next_ack) (count_of w.tx_next) ack touches sdu x ≡ near.acknowledged_in (bare w) ack es x (sdu x)
   settled_is x = ⊎_elim under (λ from. ⊎_elim (within from) (past from) (cases_lt x (count_of w.tx_next))) (cases_lt x (count_of w.tx_next_ack))
     where
       both : (b : Bool) → cond b (near.acknowledge near.gone) near.gone ≡ near.gone
       both true = refl
       both false = refl
 
-      under : x < count_of w.tx_next_ack → settled_to (count_of w.tx_next_ack) (count_of w.tx_next) ack touches sdu x ≡ near.acknowledged_in (bare slots w) ack es x (sdu x)
+      under : x < count_of w.tx_next_ack → settled_to (count_of w.tx_next_ack) (count_of w.tx_next) ack touches sdu x ≡ near.acknowledged_in (bare w) ack es x (sdu x)
       under l =
           cond-false _ _ _ (and_left _ _ (lt-leb _ x l)) ∙ gone_below x l
-          ∙ sym (ap (near.acknowledged_in (bare slots w) ack es x) (gone_below x l) ∙ both (ltb x ack && (not (near.named (bare slots w) es x) && not (near.has near.is_unsent near.gone))))
+          ∙ sym (ap (near.acknowledged_in (bare w) ack es x) (gone_below x l) ∙ both (ltb x ack && (not (near.named (bare w) es x) && not (near.has near.is_unsent near.gone))))
 
-      within : count_of w.tx_next_ack ≤ x → x < count_of w.tx_next → settled_to (count_of w.tx_next_ack) (count_of w.tx_next) ack touches sdu x ≡ near.acknowledged_in (bare slots w) ack es x (sdu x)
-      within from l = cond-true _ _ _ (and_from _ _ (le-leb _ x from) (lt-ltb x _ l)) ∙ ap (λ b. settled (ltb x ack) b (sdu x)) (names x from l)
+      within : count_of w.tx_next_ack ≤ x → x < count_of w.tx_next → settled_to (count_of w.tx_next_ack) (count_of w.tx_next) ack touches sdu x ≡ near.acknowledged_in (bare w) ack es x (sdu x)
+      within from l = cond-true _ _ _ (and_from _ _ (le-leb _ x from) (lt-ltb x _ l)) ∙ ap (λ b. settled (ltb x ack) b (sdu x)) (names x (record { from = from; to = l }))
 
-      past : count_of w.tx_next_ack ≤ x → count_of w.tx_next ≤ x → settled_to (count_of w.tx_next_ack) (count_of w.tx_next) ack touches sdu x ≡ near.acknowledged_in (bare slots w) ack es x (sdu x)
+      past : count_of w.tx_next_ack ≤ x → count_of w.tx_next ≤ x → settled_to (count_of w.tx_next_ack) (count_of w.tx_next) ack touches sdu x ≡ near.acknowledged_in (bare w) ack es x (sdu x)
       past from l =
           cond-false _ _ _ (and_right (leb (count_of w.tx_next_ack) x) _ (le-ltb x (count_of w.tx_next) l))
           ∙ sym (cond-false _ _ _ (and_left _ _ (le-ltb x ack (omega (arith, l, inside)))))

@@ -11,7 +11,7 @@ use Rattle.rlc_tx.specs.declared.ends.Polling.{Polling}
 use Rattle.rlc_tx.specs.declared.ends.Report.{Report}
 use Rattle.rlc_tx.specs.declared.ends.Report.TheVariants.{Stale, Taken}
 use Rattle.timers.specs.Views.{timer_of, settings_of}
-use Rattle.wire.specs.Views.{count_of}
+use Rattle.wire.specs.Counts.{count_of}
 use Rattle.wire.specs.declared.counts.Count.{Count}
 use Rattle.wire.specs.declared.counts.Pdcp.{Pdcp}
 
@@ -30,7 +30,7 @@ near_of n =
       pdcp_tx_next = count_of n.pdcp_tx_next;
       tx_next = count_of n.window.tx_next;
       tx_next_ack = count_of n.window.tx_next_ack;
-      sdu = sdus_in n.slots n.window;
+      sdu = sdus_in n.window;
       polling = polling_of n.polling;
       failed = n.failed;
     }
@@ -38,21 +38,32 @@ near_of n =
 abbrev pub set_by : NearEnd → Settings
 set_by n = settings_of n.settings
 
+-- an end's settings, and what it does by them
+abbrev pub State : Type 0
+State = Settings × Near
+
+abbrev pub state_of : NearEnd → State
+state_of n = (set_by n, near_of n)
+
+-- the state after a rule
+abbrev pub after : (Settings → Near → Near) → State → State
+after rule state = (state.0, rule state.0 state.1)
+
 -- the COUNT that giving a packet answers
 abbrev pub count_answered : Result (Count Pdcp) Fault → Result ℕ Fault
 count_answered (Ok count) = Ok (count_of count)
 count_answered (Err fault) = Err fault
 
 -- what giving a packet answers and leaves
-abbrev pub given_by : Result Near Fault → Near → Result ℕ Fault × Near
-given_by (Ok after) n = (Ok n.pdcp_tx_next, after)
-given_by (Err fault) n = (Err fault, n)
+abbrev pub given_by : Result Near Fault → State → Result ℕ Fault × State
+given_by (Ok n) state = (Ok state.1.pdcp_tx_next, (state.0, n))
+given_by (Err fault) state = (Err fault, state)
 
 -- what spending a grant answers and leaves
-abbrev pub spent_by : Result (Option (Bytes × Near)) Fault → Near → Bytes → Result ℕ Fault × Near × Bytes
-spent_by (Err fault) n buffer = (Err fault, n, buffer)
-spent_by (Ok None) n buffer = (Ok 0, n, buffer)
-spent_by (Ok (Some (pdu, after))) n buffer = (Ok (length pdu), after, put pdu buffer)
+abbrev pub spent_by : Result (Option (Bytes × Near)) Fault → State → Bytes → Result ℕ Fault × State × Bytes
+spent_by (Err fault) state buffer = (Err fault, state, buffer)
+spent_by (Ok None) state buffer = (Ok 0, state, buffer)
+spent_by (Ok (Some (pdu, n))) state buffer = (Ok (length pdu), (state.0, n), put pdu buffer)
 
 -- polls once the marks of a PDU's bytes were changed
 abbrev pub polled_by : Settings → (poll new : Bool) → Near → Polls
@@ -76,7 +87,7 @@ abbrev pub unless_reached : Option ℕ → ℕ → Option ℕ
 unless_reached poll_pdu without = cond (reached poll_pdu without) None (Some without)
 
 -- what reading a PDU answers and leaves
-abbrev pub read_by : Result (Option Near) Fault → Near → Result Report Fault × Near
-read_by (Err fault) n = (Err fault, n)
-read_by (Ok None) n = (Ok Stale, n)
-read_by (Ok (Some after)) n = (Ok Taken, after)
+abbrev pub read_by : Result (Option Near) Fault → State → Result Report Fault × State
+read_by (Err fault) state = (Err fault, state)
+read_by (Ok None) state = (Ok Stale, state)
+read_by (Ok (Some n)) state = (Ok Taken, (state.0, n))

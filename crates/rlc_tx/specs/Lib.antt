@@ -4,5 +4,5 @@ pub mod Plans
 pub mod Considered
 pub mod Windows
 pub mod Ends
-pub mod Soughts
+pub mod Searches
 pub mod Touches

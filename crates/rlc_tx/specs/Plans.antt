@@ -5,10 +5,15 @@ use Rattle.protocol.specs.Settings.{Settings}
 use Rattle.rlc_tx.specs.declared.plans.Plan.{Plan}
 use Rattle.rlc_tx.specs.declared.plans.Run.{Run}
 use Rattle.std.specs.Option.{option_map}
-use Rattle.wire.specs.Views.{count_of}
+use Rattle.wire.specs.Counts.{count_of}
 
 abbrev pub run_of : Run → protocol.Run
 run_of r = record { count = count_of r.count; from = r.from; size = r.size; new = r.new }
+
+-- the first run of such bytes of an SDU that a grant holds
+abbrev pub run_at : Bool → (protocol.Mark → Bool) → protocol.Sdu → (grant count : ℕ) → protocol.Run
+run_at new test s grant count =
+    record { count = count; from = protocol.byte_from test s 0; size = protocol.run_from test s (protocol.byte_from test s 0) grant; new = new }
 
 -- a run, and P
 abbrev pub plan_of : Option Plan → Option (protocol.Run × Bool)
@@ -30,9 +35,13 @@ pub record Front (test : protocol.Mark → Bool) (s : protocol.Sdu) (from size :
   pub some : 1 ≤ size
   pub inside : from + size ≤ length s.bytes
 
+-- ... as a run of an SDU is
+abbrev pub Leads : protocol.Run → protocol.Sdu → Type 0
+Leads run s = Front (served_as run.new) s run.from run.size
+
 -- a run that is served lies in the window, and fits its grant
 pub record Serves (n : protocol.Near) (grant : ℕ) (run : protocol.Run) : Type 0 where
-  pub front : Front (served_as run.new) (n.sdu run.count) run.from run.size
+  pub front : Leads run (n.sdu run.count)
   pub low : n.tx_next_ack ≤ run.count
   pub high : run.count < n.tx_next
   pub fits : cond (run.from == 0) 2 4 + run.size ≤ grant

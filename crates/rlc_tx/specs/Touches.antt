@@ -1,14 +1,11 @@
 -- What the entries of a status report do, one by one.
 use Rattle.std.specs.Prelude.{ℕ, Bool, true, false, cond, not, ◌&&◌, List, ◌==◌, nat_le, nat_lt}
-use Rattle.protocol.specs.Numbers.{sn_modulus, count_from}
 use Rattle.protocol.specs.Pdus.{Entry}
 use Rattle.protocol.specs.Rings.{in_ring}
-use Rattle.protocol.specs.Sending.{Sdu, names_byte, has, is_unsent, acknowledge}
+use Rattle.protocol.specs.Sending.{Sdu, Near, tx_count, names_byte, has, is_unsent, acknowledge}
 use Rattle.rlc_tx.specs.Considered.{considered_next, counted_by}
-use Rattle.rlc_tx.specs.declared.touches.Touch.{Touch}
-use Rattle.rlc_tx.specs.declared.touches.Touch.TheVariants.{Unnamed, Named, Counted}
-use Rattle.rlc_tx.specs.declared.windows.Window.{Window}
-use Rattle.wire.specs.Views.{count_of}
+use Rattle.rlc_tx.specs.declared.reporting.Touch.{Touch}
+use Rattle.rlc_tx.specs.declared.reporting.Touch.TheVariants.{Unnamed, Named, Counted}
 
 abbrev pub named_of : Touch → Bool
 named_of Unnamed = false
@@ -23,10 +20,6 @@ counted_of Counted = true
 abbrev pub touch_at : List Touch → ℕ → Touch
 touch_at touches x = in_ring touches x Unnamed
 
--- the count that an entry names
-abbrev pub entry_count : Window → Entry → ℕ
-entry_count w e = count_from sn_modulus (count_of w.tx_next_ack) e.nack_sn
-
 -- an SDU that an entry names is considered unless it is acknowledged
 abbrev pub named_sdu : ℕ → (ℕ → Bool) → Bool → (ℕ → Sdu) → ℕ → Sdu
 named_sdu count names counted sdu x = cond (not (sdu x).acknowledged && count == x) (considered_next counted names (sdu x)) (sdu x)
@@ -38,13 +31,13 @@ abbrev pub named_touch : (ℕ → Bool) → Bool → Sdu → Touch
 named_touch names counted s = cond s.acknowledged Named (counted_if (counted_by counted names s))
 
 -- an entry counts for the SDUs of the window
-abbrev pub entered : Window → Entry → List Touch → (ℕ → Sdu) → ℕ → Sdu
-entered w e touches sdu x =
-    cond (nat_lt x (count_of w.tx_next)) (named_sdu (entry_count w e) (names_byte e.missing) (counted_of (touch_at touches x)) sdu x) (sdu x)
+abbrev pub entered : Near → Entry → List Touch → ℕ → Sdu
+entered n e touches x =
+    cond (nat_lt x n.tx_next) (named_sdu (tx_count n e.nack_sn) (names_byte e.missing) (counted_of (touch_at touches x)) n.sdu x) (n.sdu x)
 
-abbrev pub touched : Window → Entry → List Touch → (ℕ → Sdu) → ℕ → Touch
-touched w e touches sdu x =
-    cond (entry_count w e == x) (named_touch (names_byte e.missing) (counted_of (touch_at touches x)) (sdu x)) (touch_at touches x)
+abbrev pub touched : Near → Entry → List Touch → ℕ → Touch
+touched n e touches x =
+    cond (tx_count n e.nack_sn == x) (named_touch (names_byte e.missing) (counted_of (touch_at touches x)) (n.sdu x)) (touch_at touches x)
 
 -- an SDU that a report may acknowledge
 abbrev pub settled : (below named : Bool) → Sdu → Sdu

@@ -1,21 +1,13 @@
 //! The near end: PDCP numbers packets, and RLC's transmitting side sends them until they are acknowledged.
 #![tactic(auto)]
 
-mod editing;
 mod ends;
-mod giving;
-mod marking;
 mod marks;
 mod planning;
 mod plans;
 mod reporting;
-mod searching;
-mod sliding;
 mod slots;
-mod soughts;
 mod spending;
-mod ticking;
-mod touches;
 mod windows;
 
 pub use ends::{NearEnd, Report};

@@ -3,25 +3,21 @@
 ghost use Rattle.std.specs.Prelude.{◌≡◌, ◌+◌, ◌≤◌, true, false, ◌||◌, Some};
 ghost use Rattle.protocol.specs.Sending.{served, counted, nothing_to_send, marked, polls};
 ghost use Rattle.rlc_tx.specs.Ends.{near_of, set_by, unless_reached};
-ghost use Rattle.rlc_tx.specs.Plans.{run_of, plan_of, planned, served_as, Front};
+ghost use Rattle.rlc_tx.specs.Plans.{run_of, plan_of, planned, Leads};
 ghost use Rattle.std.specs.Option.{option_map};
-ghost use Rattle.wire.specs.Views.{count_of};
+ghost use Rattle.wire.specs.Counts.{count_of};
 
 use crate::ends::NearEnd;
 use crate::plans::{Plan, Run};
-use crate::searching::{first, slot_at};
-use crate::soughts::Sought;
 use wire::Grant;
 
 /// A number of PDUs with one more, which counts if its bytes are new; none: the limit is reached.
 fn count_below(limit: u8, without: u8, new: bool) -> Option<u8>
     ensures { result ≡ unless_reached (Some limit) (counted (Some limit) new without) }
 {
-    let without = u16::from(without) + u16::from(new);
-    if without >= u16::from(limit) {
-        return None;
-    }
-    Some(without as u8)
+    without
+        .checked_add(u8::from(new))
+        .filter(|without| *without < limit)
 }
 
 impl NearEnd {
@@ -29,25 +25,11 @@ impl NearEnd {
     fn next_run(&self, grant: usize) -> Option<Run>
         ensures { option_map run_of result ≡ served (near_of self.now) grant }
     {
-        if let Some(count) = first(&self.slots, self.window, Sought::Pending) {
-            let (from, size) = slot_at(&self.slots, self.window, count).pending_run(grant);
-            let new = false;
-            return Some(Run {
-                count,
-                from,
-                size,
-                new,
-            });
+        if let Some(count) = self.window.first(|_, slot| slot.has_pending()) {
+            return Some(self.window.slot(count).pending_run(count, grant));
         }
-        let count = first(&self.slots, self.window, Sought::Unsent)?;
-        let (from, size) = slot_at(&self.slots, self.window, count).unsent_run(grant);
-        let new = true;
-        Some(Run {
-            count,
-            from,
-            size,
-            new,
-        })
+        let count = self.window.first(|_, slot| slot.has_unsent())?;
+        Some(self.window.slot(count).unsent_run(count, grant))
     }
 
     /// PDU_WITHOUT_POLL with one PDU more, which counts if its bytes are new; none: pollPDU is reached.
@@ -63,15 +45,17 @@ impl NearEnd {
 
     /// Whether nothing is to be sent once this run was.
     fn is_last(&self, run: Run) -> bool
-        requires { Front (served_as run.new) ((near_of self.now).sdu (count_of run.count)) run.from run.size }
+        requires { Leads (run_of run) ((near_of self.now).sdu (count_of run.count)) }
         ensures { result ≡ nothing_to_send (marked (run_of run) (near_of self.now)) }
     {
-        first(&self.slots, self.window, Sought::LeftAfter(run)).is_none()
+        self.window
+            .first(|count, slot| slot.left() > run.size_in(count))
+            .is_none()
     }
 
     /// P: enough PDUs went without one, nothing is left to send, or a poll is owed.
     fn is_poll(&self, run: Run) -> bool
-        requires { Front (served_as run.new) ((near_of self.now).sdu (count_of run.count)) run.from run.size }
+        requires { Leads (run_of run) ((near_of self.now).sdu (count_of run.count)) }
         ensures { result ≡ polls (set_by self.now) (run_of run) (near_of self.now) }
     {
         let reached = self.without_poll(run.new).is_none();

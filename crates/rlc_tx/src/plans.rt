@@ -1,5 +1,8 @@
 //! What a grant would send.
 
+ghost use Rattle.std.specs.Prelude.{◌≡◌, ◌==◌, if◌then◌else◌};
+ghost use Rattle.wire.specs.Counts.{count_of};
+
 use wire::RlcCount;
 
 /// Bytes of one SDU that one PDU carries.
@@ -12,6 +15,15 @@ pub struct Run {
     pub size: usize,
     /// They were not sent before.
     pub new: bool,
+}
+
+impl Run {
+    /// How many of its bytes are of the SDU of this count.
+    pub(crate) fn size_in(self, count: RlcCount) -> usize
+        ensures { result ≡ (if count_of count == count_of self.count then self.size else 0) }
+    {
+        if count == self.count { self.size } else { 0 }
+    }
 }
 
 /// The PDU that a grant would send.

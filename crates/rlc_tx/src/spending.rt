@@ -3,31 +3,17 @@
 ghost use Rattle.std.specs.Prelude.{◌≡◌, false, length, Ok};
 ghost use Rattle.protocol.specs.Bytes.{put};
 ghost use Rattle.protocol.specs.Pdus.{amd, encode};
-ghost use Rattle.protocol.specs.Sending.{top, counted, reached, marked, amd_of_run, spent, polls, spends};
-ghost use Rattle.rlc_tx.specs.Ends.{near_of, set_by, polling_of, spent_by, polled_by};
+ghost use Rattle.protocol.specs.Sending.{counted, reached, marked, amd_of_run, spent, polls, spends};
+ghost use Rattle.rlc_tx.specs.Ends.{near_of, set_by, state_of, after, polling_of, spent_by, polled_by};
 ghost use Rattle.rlc_tx.specs.Plans.{run_of, Serves};
-ghost use Rattle.wire.specs.Views.{count_of};
+ghost use Rattle.wire.specs.Counts.{count_of};
 
-use crate::editing::send_at;
 use crate::ends::{NearEnd, Polling};
-use crate::giving::refused;
 use crate::plans::{Plan, Run};
-use crate::searching::{first, slot_at};
-use crate::soughts::Sought;
 use timers::Timer;
-use wire::{Fault, Grant, Header, Refusal, RlcCount, write_amd};
+use wire::{Fault, Grant, Header, Refusal, write_amd};
 
 impl NearEnd {
-    /// One past the highest count of which a byte was sent.
-    pub(crate) fn top(&self) -> RlcCount
-        ensures { count_of result ≡ top (near_of self.now) }
-    {
-        match first(&self.slots, self.window, Sought::Unbegun) {
-            Some(count) => count,
-            None => self.window.tx_next,
-        }
-    }
-
     /// Writes a PDU at the buffer's start.
     fn write(&self, plan: Plan, buffer: &mut [u8]) -> Result<usize, Fault>
         requires run { Serves (near_of self.now) (length buffer.old) (run_of plan.run) }
@@ -36,7 +22,7 @@ impl NearEnd {
         ensures buffer { buffer.new ≡ put (encode (amd (amd_of_run (set_by self.now) (run_of plan.run) (near_of self.now)))) buffer.old }
     {
         let Plan { run, poll } = plan;
-        let slot = slot_at(&self.slots, self.window, run.count);
+        let slot = self.window.slot(run.count);
         let header = Header {
             poll,
             sn: run.count.sn(),
@@ -49,11 +35,9 @@ impl NearEnd {
     fn mark(&mut self, run: Run)
         requires run { Serves (near_of self.old) 512 (run_of run) }
         requires alive { self.old.failed ≡ false }
-        ensures near { near_of self.new ≡ marked (run_of run) (near_of self.old) }
-        ensures set { self.new.settings ≡ self.old.settings }
+        ensures { state_of self.new ≡ after (λ _. marked (run_of run)) (state_of self.old) }
     {
-        let window = self.window;
-        send_at(&mut self.slots, window, run);
+        self.window.send(run);
     }
 
     /// The polls of a near end that has just sent a PDU, with P or without.
@@ -63,18 +47,14 @@ impl NearEnd {
     {
         if poll {
             return Polling {
-                poll_sn: self.top().previous(),
+                poll_sn: self.window.top().previous(),
                 pdu_without_poll: 0,
                 owed: false,
                 t_poll_retransmit: Timer::start(Some(self.settings.t_poll_retransmit)),
             };
         }
-        let pdu_without_poll = match self.without_poll(new) {
-            Some(without) => without,
-            None => 0,
-        };
         Polling {
-            pdu_without_poll,
+            pdu_without_poll: self.without_poll(new).unwrap_or(0),
             ..self.polling
         }
     }
@@ -84,28 +64,25 @@ impl NearEnd {
         requires run { Serves (near_of self.old) 512 (run_of plan.run) }
         requires poll { plan.poll ≡ polls (set_by self.old) (run_of plan.run) (near_of self.old) }
         requires alive { self.old.failed ≡ false }
-        ensures near { near_of self.new ≡ spent (set_by self.old) (run_of plan.run) (near_of self.old) }
-        ensures set { self.new.settings ≡ self.old.settings }
+        ensures { state_of self.new ≡ after (λ s. spent s (run_of plan.run)) (state_of self.old) }
     {
         let Plan { run, poll } = plan;
         self.mark(run);
-        let polling = self.polled(poll, run.new);
-        self.polling = polling;
+        self.polling = self.polled(poll, run.new);
     }
 
     /// Sends the PDU that the grant allows, if there is one: it is written at the buffer's start, and its
     /// length is answered.
     pub fn spend(&mut self, grant: Grant, buffer: &mut [u8]) -> Result<usize, Fault>
-        ensures near { (result, near_of self.new, buffer.new) ≡ spent_by (spends (set_by self.old) grant.size (length buffer.old) (near_of self.old)) (near_of self.old) buffer.old }
-        ensures set { self.new.settings ≡ self.old.settings }
+        ensures { (result, state_of self.new, buffer.new) ≡ spent_by (spends (set_by self.old) grant.size (length buffer.old) (near_of self.old)) (state_of self.old) buffer.old }
     {
         let size = grant.size();
         grant.give_back();
         if self.failed {
-            return Err(refused(Refusal::LinkFailed));
+            return Err(Refusal::LinkFailed.at(0));
         }
         if buffer.len() < size {
-            return Err(refused(Refusal::ShortBuffer));
+            return Err(Refusal::ShortBuffer.at(0));
         }
         let Some(plan) = self.plan_for(size) else {
             return Ok(0);

@@ -1,56 +1,34 @@
-use Rattle.std.proofs.Common.{◌≡◌, ℕ, Bool, true, false, Some, None, sym, ap, ◌∙◌}
+use Rattle.std.proofs.Common.{Some, None, sym, ap, ◌∙◌, true, false, rules}
 use Rattle.protocol.specs.Sending as near
+use Rattle.rlc_tx.proofs.Found.{found_by}
 use Rattle.rlc_tx.proofs.OfEnd.{ordered}
-use Rattle.rlc_tx.proofs.Served.{found_at, served_pending, served_unsent}
+use Rattle.rlc_tx.proofs.Served.{served_pending, served_unsent}
 use Rattle.rlc_tx.proofs.ends.NearEnd.next_run.Goals as goal
 use Rattle.rlc_tx.specs.Ends.{near_of}
-use Rattle.rlc_tx.specs.Plans.{run_of}
+use Rattle.rlc_tx.specs.Plans.{run_of, run_at}
 use Rattle.std.specs.Option.{option_map}
-use Rattle.wire.specs.Views.{count_of}
-
--- a run of the SDU that a search found
-run_is : (new : Bool) (test : near.Mark → Bool) (n : near.Near) (s : near.Sdu) (count from size grant : ℕ) → s ≡ n.sdu count → from ≡ near.byte_from test s 0 → size ≡ near.run_from test s from grant
-    → ◌≡◌ {A = near.Run} (record { count = count; from = from; size = size; new = new }) (near.run_of new test n grant count)
-run_is new test n s count from size grant is first long =
-    let start = first ∙ ap (λ t. near.byte_from test t 0) is in
-    let most = long ∙ ap (λ f. near.run_from test s f grant) first ∙ ap (λ t. near.run_from test t (near.byte_from test t 0) grant) is in
-    λ i. record { count = count; from = start i; size = most i; new = new }
-
-pub slot_at-requires : goal.slot_at-requires
-slot_at-requires c =
-    let n = c.args.self.now in
-    let f = found_at _ _ _ n.window.ordered (count_of c.in-Some.count) (sym c.in-Some.ensures) in
-    record { from = f.0; to = f.1 }
-
-pub pending_run-from-requires : goal.pending_run-from-requires
-pending_run-from-requires c =
-    let n = c.args.self.now in
-    ap (near.has near.is_pending) c.slot_at.ensures ∙ (found_at _ _ _ n.window.ordered (count_of c.in-Some.count) (sym c.in-Some.ensures)).2
+use Rattle.wire.specs.Counts.{count_of}
 
 pub returns-in-Some : goal.returns-in-Some
 returns-in-Some c =
     let n = c.args.self.now in
-    let run = c.pending_run-from.result in
-    ap (λ (r : near.Run). Some r)
-    (run_is false near.is_pending (near_of n) _ (count_of c.in-Some.count) run.0 run.1 c.args.grant c.slot_at.ensures c.pending_run-from.ensures.first c.pending_run-from.ensures.size)
-    ∙ sym (served_pending (near_of n) (ordered n) c.args.grant (count_of c.in-Some.count) (sym c.in-Some.ensures))
+    let count = count_of c.in-Some.count in
+    let found = found_by _ _ n.window (λ x. near.has near.is_pending) (Some count) c.in-Some.ensures (λ count slot b at p. search rules) in
+    ap (λ (r : near.Run). Some r) (c.pending_run.ensures ∙ ap (λ s. run_at false near.is_pending s c.args.grant count) c.slot.ensures)
+    ∙ sym (served_pending (near_of n) (ordered n) c.args.grant count (sym found))
 
 pub returns-in_err-count : goal.returns-in_err-count
 returns-in_err-count c =
     let n = c.args.self.now in
-    ap (option_map run_of) c.from_residual.ensures ∙ sym (served_unsent (near_of n) (ordered n) c.args.grant None (sym c.in_default.ensures) (sym c.in_err-count.ensures))
-
-pub slot_at-requires-2 : goal.slot_at-requires-2
-slot_at-requires-2 c =
-    let n = c.args.self.now in
-    let f = found_at _ _ _ n.window.ordered (count_of c.in_ok-count.count) (sym c.in_ok-count.ensures) in
-    record { from = f.0; to = f.1 }
+    let pending = found_by _ _ n.window (λ x. near.has near.is_pending) None c.in_default.ensures (λ count slot b at p. search rules) in
+    let unsent = found_by _ _ n.window (λ x. near.has near.is_unsent) None c.in_err-count.ensures (λ count slot b at p. search rules) in
+    ap (option_map run_of) c.from_residual.ensures ∙ sym (served_unsent (near_of n) (ordered n) c.args.grant None (sym pending) (sym unsent))
 
 pub returns : goal.returns
 returns c =
     let n = c.args.self.now in
-    let run = c.unsent_run-from.result in
     let count = count_of c.in_ok-count.count in
-    ap (λ (r : near.Run). Some r)
-    (run_is true near.is_unsent (near_of n) _ count run.0 run.1 c.args.grant c.slot_at-2.ensures c.unsent_run-from.ensures.first c.unsent_run-from.ensures.size)
-    ∙ sym (served_unsent (near_of n) (ordered n) c.args.grant (Some count) (sym c.in_default.ensures) (sym c.in_ok-count.ensures))
+    let pending = found_by _ _ n.window (λ x. near.has near.is_pending) None c.in_default.ensures (λ count slot b at p. search rules) in
+    let unsent = found_by _ _ n.window (λ x. near.has near.is_unsent) (Some count) c.in_ok-count.ensures (λ count slot b at p. search rules) in
+    ap (λ (r : near.Run). Some r) (c.unsent_run.ensures ∙ ap (λ s. run_at true near.is_unsent s c.args.grant count) c.slot-2.ensures)
+    ∙ sym (served_unsent (near_of n) (ordered n) c.args.grant (Some count) (sym pending) (sym unsent))

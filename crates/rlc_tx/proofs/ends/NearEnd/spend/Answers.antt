@@ -4,7 +4,7 @@ use Rattle.rlc_tx.proofs.OfEnd.{ordered}
 use Rattle.rlc_tx.proofs.Planned.{plan_run, plan_poll, spends_run, serves_more}
 use Rattle.rlc_tx.proofs.Served.{serves}
 use Rattle.rlc_tx.proofs.ends.NearEnd.spend.Goals as goal
-use Rattle.rlc_tx.specs.Ends.{near_of, set_by, spent_by}
+use Rattle.rlc_tx.specs.Ends.{near_of, set_by, state_of, spent_by}
 use Rattle.rlc_tx.specs.Plans.{run_of}
 
 pub write-requires : goal.write-requires
@@ -38,7 +38,4 @@ returns c =
     let rule =
     ap (λ z. spends (set_by n) z (length buffer) (near_of n)) (sym c.size-size.ensures.value)
     ∙ spends_run (set_by n) (near_of n) size (length buffer) c.if-self.false (omega arith) run (plan_run (set_by n) (near_of n) size run _ c.in-Some.ensures) in
-    record {
-      near = (λ i. (wrote.size i, c.note_sent.ensures.near i, wrote.buffer i)) ∙ ap (λ r. spent_by r (near_of n) buffer) (sym rule);
-      set = c.note_sent.ensures.set;
-    }
+    (λ i. (wrote.size i, c.note_sent.ensures i, wrote.buffer i)) ∙ ap (λ r. spent_by r (state_of n) buffer) (sym rule)

@@ -1,13 +1,10 @@
-use Rattle.std.proofs.Common.{◌-◌, true, take, sym, refl, arith}
-use Rattle.protocol.specs.Sending as protocol
+use Rattle.std.proofs.Common.{◌-◌, true, take, refl, arith}
 use Rattle.rlc_tx.proofs.Changes.{sent_again}
-use Rattle.rlc_tx.proofs.Marked.{none_pending}
 use Rattle.rlc_tx.proofs.OfSlot.{marked, facts}
 use Rattle.rlc_tx.proofs.Ranges.{count_within}
 use Rattle.rlc_tx.proofs.Sends.{settled_marks}
 use Rattle.rlc_tx.proofs.slots.Slot.acknowledge.Goals as goal
-use Rattle.rlc_tx.specs.Marks.{is_pending, mark_at}
-use Rattle.std.proofs.lemmas.Bool.{cond-false}
+use Rattle.rlc_tx.specs.Marks.{is_pending}
 
 pub overflow_sub-self : goal.overflow_sub-self
 overflow_sub-self c =
@@ -26,8 +23,3 @@ pub returns-then-self-gt0 : goal.returns-then-self-gt0
 returns-then-self-gt0 c =
     let s = c.args.self.now in
     λ i. record { bytes = take s.size s.bytes; mark = λ k. settled_marks s c.replace.new.marks c.replace.ensures.after k i; acknowledged = true; retx_count = s.retx_count }
-
-pub returns-else-self-gt0 : goal.returns-else-self-gt0
-returns-else-self-gt0 c =
-    let s = c.args.self.now in
-    λ i. record { bytes = take s.size s.bytes; mark = λ k. sym (cond-false (protocol.is_pending (mark_at s.marks k)) protocol.sent (mark_at s.marks k) (none_pending _ _ _ _ _ (marked s) (omega (arith, c.if-self-gt0.false)) k)) i; acknowledged = true; retx_count = s.retx_count }

@@ -1,25 +1,24 @@
-use Rattle.std.proofs.Common.{◌+◌, ◌-◌, drop, refl, arith}
+use Rattle.std.proofs.Common.{◌+◌, ◌-◌, drop, false, refl, arith}
+use Rattle.protocol.specs.Sending as near
 use Rattle.rlc_tx.proofs.Marked.{leading_take, pending_to}
-use Rattle.rlc_tx.proofs.OfSlot.{marked, long}
+use Rattle.rlc_tx.proofs.OfSlot.{marked, long, run_is}
 use Rattle.rlc_tx.proofs.slots.Slot.pending_run.Goals as goal
 use Rattle.rlc_tx.specs.Marks.{is_pending}
 use Rattle.rlc_tx.specs.Slots.{sdu_of}
+use Rattle.wire.specs.Counts.{count_of}
 
 pub returns : goal.returns
 returns c =
     let s = c.args.self.now in
     let from = c.first_pending-from.result in
     let most = c.min-most.result in
-    record {
-      first = c.first_pending-from.ensures.value;
-      size =
-          omega (
-            arith,
-            c.count_front.ensures,
-            leading_take is_pending (from + most - from) (drop from s.marks),
-            c.min-most.ensures,
-            c.room.ensures,
-            c.first_pending-from.ensures.within,
-            pending_to _ _ _ _ _ (marked s) (sdu_of s) (long s) (λ i. refl) from (omega (arith, c.first_pending-from.ensures.within)),
-          );
-    }
+    run_is false near.is_pending (sdu_of s) c.args.grant (count_of c.args.count) from c.count_front.result c.first_pending-from.ensures.value
+    (omega (
+      arith,
+      c.count_front.ensures,
+      leading_take is_pending (from + most - from) (drop from s.marks),
+      c.min-most.ensures,
+      c.room.ensures,
+      c.first_pending-from.ensures.within,
+      pending_to _ _ _ _ _ (marked s) (sdu_of s) (long s) (λ i. refl) from (omega (arith, c.first_pending-from.ensures.within)),
+    ))

@@ -1,7 +1,0 @@
-use Rattle.std.proofs.Common.{◌≡◌, ℕ, ◌+◌, ◌<◌, ◌≤◌, true}
-use Rattle.rlc_tx.proofs.ticking.highest.Given as goal
-use Rattle.rlc_tx.specs.Windows.{sdus_in}
-use Rattle.wire.specs.Views.{count_of}
-
-abbrev pub invariant-loop-k : goal.invariant-loop-k
-invariant-loop-k l = (j : ℕ) → l.k ≤ j → j < l.begun → (sdus_in l.slots l.window (count_of l.window.tx_next_ack + j)).acknowledged ≡ true
