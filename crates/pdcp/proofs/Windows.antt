@@ -1,7 +1,7 @@
 -- A ring of places as a function of COUNTs, and the window that it shows.
-use Rattle.std.proofs.Common.{◌≡◌, ℕ, ◌+◌, ◌-◌, ◌*◌, ◌%◌, ◌<◌, ◌≤◌, Bool, true, false, cond, ◌&&◌, eqb, ltb, leb, find, count_by, List, [], ◌++◌, map, length, get_or, set, is_some, Some, None, Option, sym, refl, ap, ◌∙◌, subst, ⊎_elim, arith}
+use Rattle.std.proofs.Common.{◌≡◌, ℕ, ◌+◌, ◌-◌, ◌*◌, ◌%◌, ◌<◌, ◌≤◌, Bool, true, false, cond, ◌&&◌, eqb, ltb, leb, find, count_by, List, [], ◌++◌, map, length, get_or, set, is_some, Some, None, Option, sym, refl, ap, ◌∙◌, ⊎_elim, arith}
 use Rattle.pdcp.proofs.Listings.{stored_found, listed_same, listed_none, listed_split, found_outside, found_at, listed_insert, listed_without, lowest_listed, due_listed}
-use Rattle.pdcp.specs.Places.{Each, has_place, packet_in, no_place, under, listed, copied_out}
+use Rattle.pdcp.specs.Places.{has_place, packet_in, no_place, under, listed, copied_out}
 use Rattle.pdcp.specs.Stores.{held_in, Near, found, taken, taken_if, without, lowest_of}
 use Rattle.pdcp.specs.declared.places.Place.{Place}
 use Rattle.protocol.proofs.Rings.{ring_update}
@@ -9,8 +9,8 @@ use Rattle.protocol.specs.Bytes.{Bytes, put}
 use Rattle.protocol.specs.Reordering.{Stored, is_stored, insert, due_of}
 use Rattle.protocol.specs.Searching.{update}
 use Rattle.std.specs.List.{range_with_len}
-use Rattle.std.proofs.lemmas.List.{append-nil, length-map, map-set, get_or-map, get_or-set_same, get_or-set_other}
-use Rattle.std.proofs.lemmas.Bool.{both_ways, cases_eq, cases_lt, eqb-true, leb-true, leb-false, ltb-true, ltb-false, and_parts, and_cases}
+use Rattle.std.proofs.lemmas.List.{append-nil, length-map, map-set, get_or-map}
+use Rattle.std.proofs.lemmas.Bool.{both_ways, cases_lt, eqb-true, leb-true, leb-false, ltb-true, ltb-false, and_parts, and_cases}
 
 -- what stands under a COUNT is what its place holds
 pub under_is : (places : List Place) (c : ℕ) → length places ≡ 16 → under places c ≡ packet_in (get_or places (c % 16) no_place)
@@ -150,16 +150,6 @@ module _ (places : List Place) (first c : ℕ) (sized : length places ≡ 16) (l
           → three answer written (held_in (set places (c % 16) place) first) ≡ taken_if o c buffer (held_in places first)
       go None is f = left (held_in places first) f (held_same (ap (λ t. t.2) f ∙ sym is))
       go (Some packet) is f = short packet (ltb (length buffer) (length packet)) is f
-
--- the places of a ring where one was changed
-pub each_set : (P : Place → Type 0) (places : List Place) (i : ℕ) (place : Place) → length places ≡ 16 → Each P places → P place → Each P (set places i place)
-each_set P places i place sized all new k lt = ⊎_elim here there (cases_eq k i)
-  where
-    here : k ≡ i → P (get_or (set places i place) k no_place)
-    here e = subst P (sym (ap (λ j. get_or (set places i place) j no_place) e ∙ get_or-set_same places i place no_place (omega (arith, e, lt, sized)))) new
-
-    there : (k ≡ i → ⊥) → P (get_or (set places i place) k no_place)
-    there d = subst P (sym (get_or-set_other places i k place no_place d)) (all k lt)
 
 -- the lowest COUNT of a ring, and how many are due ------------------------------------------------------------------
 

@@ -17,14 +17,6 @@ pub(crate) struct Place {
     length: Option<usize>,
 }
 
-/// Writes `bytes` at the buffer's start.
-fn write(buffer: &mut [u8], bytes: &[u8])
-    requires { length bytes.now ≤ length buffer.old }
-    ensures { buffer.new ≡ put bytes.now buffer.old }
-{
-    buffer[..bytes.len()].copy_from_slice(bytes);
-}
-
 impl Place {
     pub(crate) fn empty() -> Place
         ensures { (packet_in result ≡ None) × (Room result) }
@@ -41,7 +33,7 @@ impl Place {
         ensures holds { packet_in self.new ≡ Some packet.now }
         ensures room { Room self.new }
     {
-        write(&mut self.bytes, packet);
+        self.bytes[..packet.len()].copy_from_slice(packet);
         self.length = Some(packet.len());
     }
 
@@ -63,7 +55,7 @@ impl Place {
         if buffer.len() < length {
             return None;
         }
-        write(buffer, &self.bytes[..length]);
+        buffer[..length].copy_from_slice(&self.bytes[..length]);
         self.length = None;
         Some(length)
     }

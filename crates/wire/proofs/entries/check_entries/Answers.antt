@@ -1,18 +1,12 @@
 -- Each turn is a step of the walk along the entries.
-use Rattle.std.proofs.Common.{not, ◌-◌, length, drop, None, sym, ap, ◌∙◌, subst}
+use Rattle.std.proofs.Common.{not, ◌-◌, length, drop, sym, ap, ◌∙◌, subst}
 use Rattle.std.proofs.lemmas.List.{take_rest}
 use Rattle.std.specs.Bool.{then_some}
 use Rattle.std.specs.Option.{option_or}
-use Rattle.wire.proofs.Steps.{Walked, walked_start, walked_on}
+use Rattle.wire.proofs.Steps.{Walked, walked_on}
 use Rattle.wire.proofs.entries.check_entries.Goals as goal
 use Rattle.wire.specs.Counts.{sn_of}
 use Rattle.wire.specs.Views.{found_of}
-
-pub loop-more-init : goal.loop-more-init
-loop-more-init c =
-    let pdu = c.args.bytes.now in
-    subst (λ rest. Walked (sn_of c.args.ack_sn) c.args.e1 (drop 3 pdu) (length pdu) c.args.e1 rest None) (sym (take_rest pdu 3))
-    (walked_start (sn_of c.args.ack_sn) c.args.e1 pdu c.requires)
 
 pub loop-more-preserved : goal.loop-more-preserved
 loop-more-preserved c =

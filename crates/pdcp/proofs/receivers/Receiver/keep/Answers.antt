@@ -6,19 +6,11 @@ use Rattle.std.proofs.lemmas.Bool.{leb-true}
 use Rattle.wire.proofs.Orders.{count_le}
 use Rattle.pdcp.specs.Stores.{stored_of, Below}
 
-pub insert-requires : goal.insert-requires
-insert-requires c =
+pub insert-requires-clause-near : goal.insert-requires-clause-near
+insert-requires-clause-near c k is =
     let r = c.args.self.now in
-    let n = c.args.count.value in
-    let deliv = r.rx_deliv.value in
-    record {
-      new = c.requires.new;
-      near = λ k is.
-          let from = none_due deliv 0 (stored_of r.store) k (store_rises r.store) c.requires.collected is in
-          (omega (arith, r.within k is, c.requires.from), omega (arith, from, c.requires.to));
-      limit = c.requires.limit;
-      short = c.requires.short;
-    }
+    let from = none_due r.rx_deliv.value 0 (stored_of r.store) k (store_rises r.store) c.requires.collected is in
+    (omega (arith, r.within k is, c.requires.from), omega (arith, from, c.requires.to))
 
 pub invariant_of-self : goal.invariant_of-self
 invariant_of-self c =

@@ -1,10 +1,10 @@
-use Rattle.std.proofs.Common.{◌≡◌, ◌+◌, ◌<◌, ◌≤◌, true, false, sym, ap, ◌∙◌, arith}
-use Rattle.pdcp.proofs.Orders.{missing_on, missing_end, missing_here}
+use Rattle.std.proofs.Common.{◌≡◌, ◌+◌, ◌<◌, true, false, sym, ap, ◌∙◌, arith}
+use Rattle.pdcp.proofs.Orders.{missing_on, missing_here}
 use Rattle.pdcp.proofs.receivers.Receiver.next_missing.Goals as goal
 use Rattle.pdcp.specs.Stores.{stored_of}
 use Rattle.pdcp.specs.Views.{pdcp_of}
 use Rattle.protocol.specs.Reordering.{is_stored, unstored_from}
-use Rattle.std.proofs.lemmas.Bool.{ltb-true, ltb-false}
+use Rattle.std.proofs.lemmas.Bool.{ltb-true}
 use Rattle.wire.proofs.Orders.{count_lt}
 
 pub loop-next-preserved : goal.loop-next-preserved
@@ -27,11 +27,3 @@ returns-else-contains c =
     let lt : n < end = ltb-true n end (sym (c.lt.ensures ∙ count_lt n end) ∙ c.loop-next-test.true) in
     let not_there : is_stored (stored_of r.store) n ≡ false = sym {b = is_stored (stored_of r.store) n} c.if-contains.ensures in
     sym (missing_here (stored_of r.store) end n lt not_there) ∙ c.loop-next.invariant.1
-
-pub returns-after-loop-next : goal.returns-after-loop-next
-returns-after-loop-next c =
-    let r = c.args.self.now in
-    let n = c.loop-next.next.value in
-    let end = r.rx_next.value in
-    let past : end ≤ n = ltb-false n end (sym (c.lt.ensures ∙ count_lt n end) ∙ c.loop-next-test.false) in
-    sym (missing_end (stored_of r.store) end n past) ∙ c.loop-next.invariant.1

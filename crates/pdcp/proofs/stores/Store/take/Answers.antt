@@ -1,7 +1,7 @@
-use Rattle.std.proofs.Common.{◌≡◌, ◌+◌, ◌%◌, ◌<◌, ◌≤◌, true, false, sym, ap, ◌∙◌, subst, length-set}
-use Rattle.pdcp.proofs.Windows.{found_none, out_of_window, held_taken, under_is, each_set}
+use Rattle.std.proofs.Common.{◌≡◌, ◌+◌, ◌<◌, ◌≤◌, true, false, sym, ap, ◌∙◌, subst}
+use Rattle.pdcp.proofs.Windows.{found_none, out_of_window, held_taken, under_is}
 use Rattle.pdcp.proofs.stores.Store.take.Goals as goal
-use Rattle.pdcp.specs.Places.{Wide, Inside, has_place, copied_out}
+use Rattle.pdcp.specs.Places.{has_place, copied_out}
 use Rattle.pdcp.specs.Stores.{stored_of, taken, taken_if}
 use Rattle.std.proofs.lemmas.Bool.{and_parts, leb-true, ltb-true}
 
@@ -12,18 +12,6 @@ returns-then-not-reaches c =
     let out : has_place s.first n ≡ false = sym c.if-not-reaches.ensures in
     let none = found_none s.places s.first n (out_of_window s.first n out) in
     ap (λ o. taken_if o n c.args.buffer.now (stored_of s)) (sym none) ∙ ap (λ m. taken m c.args.buffer.now (stored_of s)) c.value.ensures
-
-pub invariant_of-self : goal.invariant_of-self
-invariant_of-self c =
-    let s = c.args.self.now in
-    let i = c.value-2.result % 16 in
-    let room = c.copy_out.ensures.room in
-    record {
-      sized = length-set s.places i c.copy_out.new.self ∙ s.sized;
-      wide = each_set Wide s.places i c.copy_out.new.self s.sized s.wide room.0;
-      inside = each_set Inside s.places i c.copy_out.new.self s.sized s.inside room.1;
-      low = s.low;
-    }
 
 pub returns : goal.returns
 returns c =

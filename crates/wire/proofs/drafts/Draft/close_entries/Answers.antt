@@ -1,19 +1,11 @@
 -- The report is closed as the reader judges its sealed bytes; a refusal writes the old ones back.
-use Rattle.std.proofs.Common.{◌+◌, true, ◌∷◌, drop, set, Ok, Err, ap, ◌∙◌, arith}
+use Rattle.std.proofs.Common.{◌+◌, true, ◌∷◌, drop, set, Err, ap, ◌∙◌, arith}
 use Rattle.protocol.specs.Bytes.{byte}
 use Rattle.wire.proofs.Sealing.{closes_by, restored}
 use Rattle.wire.proofs.drafts.Draft.close_entries.Goals as goal
 use Rattle.wire.specs.Drafted.{draft_of}
 use Rattle.wire.specs.Headers.{headed}
 use Rattle.wire.specs.Counts.{sn_of}
-
-pub returns-in-Ok : goal.returns-in-Ok
-returns-in-Ok c =
-    let d = draft_of c.args.self in
-    let buffer = c.args.buffer.now in
-    let held = c.put_header.ensures ∙ ap (headed (sn_of c.args.ack_sn) true) c.end_entries.ensures in
-    ap (λ b. record { answer = Ok d.size; draft = d; buffer = b }) held
-    ∙ closes_by (Ok tt) (sn_of c.args.ack_sn) d buffer c.put_header.new.buffer c.requires.0 c.requires.1 held c.in-Ok.ensures
 
 pub returns-in-Err : goal.returns-in-Err
 returns-in-Err c =
