@@ -14,3 +14,4 @@ mod queues;
 pub use airs::{AGE_LIMIT, Air, MAX_DRAW, MAX_PDU, empty};
 pub use fades::Fade;
 pub use queue_airs::{Pipe, Pool};
+pub use queues::CAPACITY;

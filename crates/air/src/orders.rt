@@ -4,19 +4,19 @@ ghost use Rattle.std.specs.Prelude.{◌≡◌, ℕ, ◌<◌, Bool, false};
 ghost use Rattle.air.specs.Kept.{drawn, odd, drawn_within};
 ghost use Rattle.std.specs.Option.{SomeIff};
 
-/// Which of the PDUs that wait a Take lets out, and whether it stays.
+/// Which of the PDUs that wait a Take lets out, and whether the air keeps it.
 pub trait Order {
     // The place, counted from 0 at the oldest, by the draw and by how many wait.
     ghost place: { ℕ → ℕ → ℕ };
 
-    ghost stays: { ℕ → Bool };
+    ghost keeps: { ℕ → Bool };
 
     /// None only where nothing waits.
     fn place(draw: u16, held: usize) -> Option<usize>
         ensures { SomeIff result (0 < held) (place draw held) };
 
-    fn stays(draw: u16) -> bool
-        ensures { result ≡ stays draw };
+    fn keeps(draw: u16) -> bool
+        ensures { result ≡ keeps draw };
 
     // What waits there comes out.
     ghost within: { (draw held : ℕ) → 0 < held → place draw held < held };
@@ -28,7 +28,7 @@ pub struct Oldest;
 impl Order for Oldest {
     ghost place = { λ _ _. 0 };
 
-    ghost stays = { λ _. false };
+    ghost keeps = { λ _. false };
 
     ghost within = { λ _ _ some. some };
 
@@ -36,7 +36,7 @@ impl Order for Oldest {
         (held > 0).then_some(0)
     }
 
-    fn stays(_draw: u16) -> bool {
+    fn keeps(_draw: u16) -> bool {
         false
     }
 }
@@ -47,7 +47,7 @@ pub struct Drawn;
 impl Order for Drawn {
     ghost place = { drawn };
 
-    ghost stays = { odd };
+    ghost keeps = { odd };
 
     ghost within = { drawn_within };
 
@@ -55,7 +55,7 @@ impl Order for Drawn {
         usize::from(draw / 2).checked_rem(held)
     }
 
-    fn stays(draw: u16) -> bool {
+    fn keeps(draw: u16) -> bool {
         draw % 2 == 1
     }
 }

@@ -53,7 +53,7 @@ impl<O: Order> Air for QueueAir<O> {
     ghost skips = { λ a a'. waits a'.queue ≡ aged (waits a.queue) };
 
     ghost gives = { λ a draw buffer answer written a'.
-        Took (O.place draw (length (waits a.queue))) (O.stays draw) draw buffer answer written (waits a.queue) (waits a'.queue) };
+        Took (O.place draw (length (waits a.queue))) (O.keeps draw) draw buffer answer written (waits a.queue) (waits a'.queue) };
 
     ghost sound = { λ a. sound_waits a.queue };
 
@@ -67,6 +67,6 @@ impl<O: Order> Air for QueueAir<O> {
 
     fn take(&mut self, draw: u16, buffer: &mut [u8]) -> Option<usize> {
         let k = O::place(draw, self.queue.len())?;
-        self.queue.take(k, O::stays(draw), draw, buffer)
+        self.queue.take(k, O::keeps(draw), draw, buffer)
     }
 }

@@ -107,15 +107,15 @@ impl Queue {
         Some((held.pdu.as_slice(), held.age))
     }
 
-    /// Lets the k-th PDU out, which stays if `stays`.
+    /// Lets the k-th PDU out, which stays if `keeps`.
     pub(crate) fn take(
         &mut self,
         k: usize,
-        stays: bool,
+        keeps: bool,
         draw: u16,
         buffer: &mut [u8],
     ) -> Option<usize>
-        ensures { Took k stays draw buffer.old result buffer.new (waits self.old) (waits self.new) }
+        ensures { Took k keeps draw buffer.old result buffer.new (waits self.old) (waits self.new) }
     {
         if !takes(draw, buffer) {
             return None;
@@ -123,7 +123,7 @@ impl Queue {
         let (pdu, _) = self.get(k)?;
         let length = pdu.len();
         write(buffer, pdu);
-        if !stays {
+        if !keeps {
             self.remove(k);
         }
         Some(length)

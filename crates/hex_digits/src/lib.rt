@@ -39,23 +39,13 @@ impl fmt::Display for BadHex {
     }
 }
 
-/// A digit's value; none if it is no hexadecimal digit.
-fn digit_value(digit: u8) -> Option<u8>
-    ensures { MatchOption result ((v : ℕ) → Digit digit v → ⊥) (λ v. (v < 16) × Digit digit v) }
-{
-    match digit {
-        b'0'..=b'9' => Some(digit - b'0'),
-        b'a'..=b'f' => Some(digit - b'a' + 10),
-        b'A'..=b'F' => Some(digit - b'A' + 10),
-        _ => None,
-    }
-}
-
-/// The byte of two digits, the high one first.
+/// The byte of two digits, the high one first; none if one is no hexadecimal digit.
 fn byte_of(high: u8, low: u8) -> Option<u8>
-    ensures { IfSome result (λ b. Byte high low b) }
+    ensures { MatchOption result ((b : ℕ) → Byte high low b → ⊥) (λ b. Byte high low b) }
 {
-    Some(digit_value(high)? * 16 + digit_value(low)?)
+    let high = char::from(high).to_digit(16)?;
+    let low = char::from(low).to_digit(16)?;
+    u8::try_from(high * 16 + low).ok()
 }
 
 /// The bytes of a text of digits, two for each.

@@ -3,7 +3,7 @@
 ghost use Rattle.std.specs.Prelude.{◌≤◌, IfSome};
 
 use crate::scripts::Kind;
-use air::{Air, Fade, Pipe, Pool};
+use air::{Air, CAPACITY, Fade, Pipe, Pool};
 use hex_digits::Hex;
 use std::fmt;
 
@@ -65,7 +65,7 @@ impl Carrier {
 impl fmt::Display for Carrier {
     fn fmt<W: fmt::Write>(&self, f: &mut fmt::Formatter<W>) -> fmt::Result {
         write!(f, "waits:")?;
-        for (pdu, age) in (0..8).filter_map(|k| self.get(k)) {
+        for (pdu, age) in (0..CAPACITY).map_while(|k| self.get(k)) {
             let bytes = Hex(pdu);
             write!(f, " {bytes}@{age}")?;
         }
