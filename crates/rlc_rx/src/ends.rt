@@ -19,7 +19,7 @@ use crate::reporting::Reporting;
 use crate::windows::Window;
 use protocol::PACKET_LIMIT;
 use timers::{Settings, Timer};
-use wire::{Draft, End, Fault, Grant, NotClosed, Pdu, Reader, Refusal, RlcCount};
+use wire::{Draft, End, Fault, Grant, Pdu, Reader, Refusal, RlcCount};
 
 /// RLC's receiving side: it puts SDUs together from segments, and reports what is missing.
 #[derive(Drop)]
@@ -156,10 +156,10 @@ impl FarEnd {
     {
         let mut draft = Draft::open();
         let ack = self.list_missing(size - 3, &mut draft, buffer)?;
-        match draft.close(ack.sn(), buffer) {
-            Ok(closed) => Ok(closed.size()),
-            Err(NotClosed { fault, .. }) => Err(fault),
-        }
+        draft
+            .close(ack.sn(), buffer)
+            .map(|closed| closed.size())
+            .map_err(|refused| refused.fault)
     }
 
     /// Spends a grant: writes a status report at the buffer's start, if one is wanted, and answers its length.
