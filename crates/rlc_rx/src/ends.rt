@@ -79,6 +79,7 @@ impl FarEnd {
         self.await_from(low);
     }
 
+    /// What becomes of a data PDU.
     fn receive(&mut self, pdu: &DataPdu) -> Result<Reception, Fault>
         ensures { (answer_of self.new result, state_of self.new) ≡ receiving (data_pdu_of pdu.now) (state_of self.old) }
     {
