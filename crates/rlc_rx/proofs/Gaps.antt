@@ -133,9 +133,6 @@ module _ (p : far.Partial) where
         ap (cond (eqb (far.held_from p 502 0) 502) (record { nack_sn = x % 4096; missing = every } ∷ []))
         (gaps_same x (suc 502 - 0) 502 0 (omega arith) (omega arith) (omega arith) (omega (arith, short)) (omega (arith, short)))
 
-    pub entries_empty : (i : ℕ) → eqb (far.held_from p 502 0) 502 ≡ true → entries_from p x (Some i) ≡ record { nack_sn = x % 4096; missing = every } ∷ []
-    entries_empty i none = cond-true _ _ _ none
-
     module _ (i : ℕ) (some : eqb (far.held_from p 502 0) 502 ≡ false) (inside : i ≤ far.limit p) where
       onward : (o : Option Gap) → gap_at p i ≡ o → entries_from p x (Some i) ≡ gaps_on x (502 - i) o
       onward o e =

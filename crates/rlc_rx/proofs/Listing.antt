@@ -47,6 +47,3 @@ module _ (f : far.Far) (high x room : ℕ) (more : x < high) where
   report_lists c le =
       ap (λ m. far.report_from f m x room) next ∙ cond-false _ _ _ c ∙ cond-true _ _ _ (le-leb _ room le)
       ∙ ap (λ y. far.behind (far.sdu_entries x (f.sdu x)) (far.report_from f (high - (x + 1)) y (room - far.entries_length (far.sdu_entries x (f.sdu x))))) (omega arith)
-
-pub report_over : (f : far.Far) (high x room : ℕ) → high ≤ x → report_at f high x room ≡ record { ack = x; entries = [] }
-report_over f high x room le = let none : high - x ≡ 0 = omega (arith, le) in ap (λ m. far.report_from f m x room) none

@@ -1,14 +1,16 @@
 -- Data written among bytes that are held, byte by byte or at once.
-use Rattle.std.proofs.Common.{◌≡◌, ℕ, zero, suc, ◌+◌, ◌-◌, ◌<◌, ◌≤◌, Bool, true, false, cond, not, ◌||◌, ltb, leb, ◌≢◌, ◌⊎◌, List, [], ◌∷◌, ◌++◌, length, get_or, take, drop, set, replicate, sym, refl, ap, ◌∙◌, inl, inr, ⊎_elim, arith}
+use Rattle.std.proofs.Common.{◌≡◌, ℕ, ◌+◌, ◌-◌, ◌<◌, ◌≤◌, Bool, true, false, cond, not, ◌||◌, ltb, leb, ◌≢◌, ◌⊎◌, List, ◌++◌, length, get_or, take, drop, set, replicate, sym, refl, ap, ◌∙◌, inl, inr, ⊎_elim, arith}
 use Rattle.protocol.specs.Bytes.{Bytes, byte}
 use Rattle.rlc_rx.specs.Flags.{tally, is_held, NoneFrom, in_data, Merged}
-use Rattle.rlc_rx.proofs.Tallies.{tally_below, tally-set}
+use Rattle.rlc_rx.proofs.Tallies.{one, tally_below, tally-set}
+use Rattle.std.proofs.lemmas.List.Folds.{sum_by-replicate}
+use Rattle.std.proofs.lemmas.List.Sums.{sum_by-append}
 use Rattle.std.proofs.lemmas.List.{length-set, length-take-le, length-append, length-drop, length-replicate, get_or-set_same, get_or-set_other, get_or_append_left, get_or-append_right, get_or-take, get_or-drop, get_or-replicate, take-append-drop}
+use Rattle.std.proofs.Math.Bool.{or-false}
 use Rattle.std.proofs.lemmas.Bool.{cases_lt, cases_eq, cond-true, cond-false, lt-ltb, le-ltb, lt-leb, le-leb, or_left, not_from_false, or_from}
 
 or_nothing : (x y : Bool) → y ≡ false → (x || y) ≡ x
-or_nothing true y e = refl
-or_nothing false y e = e
+or_nothing x y e = ap (λ b. x || b) e ∙ or-false x
 
 module _ (offset n : ℕ) where
   pub data_outside : (i : ℕ) → (i < offset) ⊎ (offset + n ≤ i) → in_data offset n i ≡ false
@@ -32,25 +34,6 @@ module _ (offset n : ℕ) where
       above ge = le-leb _ i (omega (arith, ge, d)) ∙ sym (le-leb _ i ge)
 
 -- byte by byte --------------------------------------------------------------------------------------------------------
-
-pub merged_none : (offset : ℕ) (payload bytes : Bytes) (held : List Bool) → Merged offset 0 payload bytes bytes held held 0
-merged_none offset payload bytes held =
-    record {
-      sizes = (refl, refl);
-      marked = λ i. sym (or_nothing (is_held held i) _ (outside i));
-      written = λ i. sym (cond-true _ _ _ (still (is_held held i) _ (outside i)));
-      counted = omega arith;
-    }
-  where
-    outside : (i : ℕ) → in_data offset 0 i ≡ false
-    outside i = data_outside offset 0 i (split (cases_lt i offset))
-      where
-        split : (i < offset) ⊎ (offset ≤ i) → (i < offset) ⊎ (offset + 0 ≤ i)
-        split = ⊎_elim (λ l. inl l) (λ g. inr (omega (arith, g)))
-
-    still : (x y : Bool) → y ≡ false → (x || not y) ≡ true
-    still true y e = refl
-    still false y e = ap not e
 
 module _ (offset n : ℕ) (payload bytes bs : Bytes) (held hs : List Bool) (new : ℕ) (m : Merged offset n payload bytes bs held hs new) where
   not_yet : in_data offset n (offset + n) ≡ false
@@ -129,14 +112,6 @@ module _ (offset n : ℕ) (payload bytes bs : Bytes) (held hs : List Bool) (new 
 
 -- at once ------------------------------------------------------------------------------------------------------------
 
-pub tally-append : (xs ys : List Bool) → tally (xs ++ ys) ≡ tally xs + tally ys
-tally-append [] ys = omega arith
-tally-append (x ∷ xs) ys = omega (arith, tally-append xs ys)
-
-tally-set_all : (n : ℕ) → tally (replicate n true) ≡ n
-tally-set_all zero = refl
-tally-set_all (suc n) = omega (arith, tally-set_all n)
-
 none_dropped : (a : ℕ) (flags : List Bool) → NoneFrom a flags → tally (drop a flags) ≡ 0
 none_dropped a flags none =
     let low = tally_below 0 (drop a flags) (λ i le. get_or-drop a flags i false ∙ none (a + i) (omega arith)) in
@@ -180,12 +155,12 @@ merged_all offset payload bytes held room same none =
       counted =
           omega (
             arith,
-            tally-append (take offset held) (replicate n true ++ drop (offset + n) held),
-            tally-append (replicate n true) (drop (offset + n) held),
-            tally-set_all n,
+            sum_by-append one (take offset held) (replicate n true ++ drop (offset + n) held),
+            sum_by-append one (replicate n true) (drop (offset + n) held),
+            sum_by-replicate one n true,
             none_dropped (offset + n) held (λ i le. none i (omega (arith, le))),
             none_dropped offset held none,
-            tally-append (take offset held) (drop offset held),
+            sum_by-append one (take offset held) (drop offset held),
             ap tally (take-append-drop offset held),
           );
     }

@@ -1,11 +1,11 @@
 -- Where RX_Next and RX_Highest_Status move, and what they keep.
-use Rattle.std.proofs.Common.{◌≡◌, ℕ, ◌-◌, ◌%◌, ◌<◌, ◌≤◌, Bool, true, false, cond, not, ◌&&◌, eqb, ltb, ◌≢◌, ◌⊎◌, List, map, length, get_or, sym, refl, ap, ◌∙◌, ⊎_elim, arith}
+use Rattle.std.proofs.Common.{◌≡◌, ℕ, ◌-◌, ◌<◌, ◌≤◌, Bool, true, false, cond, not, ◌&&◌, eqb, ltb, ◌≢◌, ◌⊎◌, List, sym, refl, ap, ◌∙◌, ⊎_elim, arith}
 use Rattle.protocol.specs.Receiving as far
 use Rattle.protocol.specs.Rings.{in_ring}
 use Rattle.protocol.specs.Searching.{seek}
 use Rattle.protocol.proofs.Seeks.{seek_from, seek_to, seek_found, seek_least}
 use Rattle.rlc_rx.specs.Rings.{sdus_in, polls_in}
-use Rattle.rlc_rx.proofs.Places.{ring_read, window_seen}
+use Rattle.rlc_rx.proofs.Places.{window_seen}
 use Rattle.rlc_rx.proofs.Seeking.{seek_range}
 use Rattle.std.proofs.lemmas.Bool.{both_ways, cases_lt, cases_eq, cases_Bool, cond-true, cond-false, lt-ltb, le-ltb, eqb-true, eqb-false, not-true, not_from_false}
 
@@ -74,19 +74,10 @@ module _ (sdus : ℕ → far.Partial) (high x : ℕ) (seen : x ≤ high) where
       at_x : status ≡ x → (far.complete (sdus x) ≡ true → status ≢ x) → far.complete (sdus status) ≡ false
       at_x e h = ⊎_elim (λ c. absurd (h c e)) (λ f. ap (λ y. far.complete (sdus y)) e ∙ f) (cases_Bool (far.complete (sdus x)))
 
-pub past_stays : (sdus : ℕ → far.Partial) (high x variable : ℕ) → far.complete (sdus x) ≡ false → past sdus high x variable ≡ variable
-past_stays sdus high x variable c = ap (λ b. cond (b && eqb variable x) (open_from sdus high x) variable) c
-
 pub past_moves : (sdus : ℕ → far.Partial) (high x variable to : ℕ) → far.complete (sdus x) ≡ true → to ≡ open_from sdus high x
     → cond (eqb variable x) to variable ≡ past sdus high x variable
 past_moves sdus high x variable to c e =
     ap (λ t. cond (eqb variable x) t variable) e ∙ sym (ap (λ b. cond (b && eqb variable x) (open_from sdus high x) variable) c)
-
--- what stands under a count that was seen
-pub seen_slot : {S : Type 0} (f : S → far.Partial) (slots : List S) (next high x : ℕ) (d : S) → length slots ≡ 16 → next ≤ x → x < high
-    → sdus_in next high (map f slots) x ≡ f (get_or slots (x % 16) d)
-seen_slot f slots next high x d size from to =
-    window_seen far.complete_sdu far.nothing_held next high (map f slots) x from to ∙ ring_read f slots x far.nothing_held d size
 
 -- the window that begins later ---------------------------------------------------------------------------------------------
 

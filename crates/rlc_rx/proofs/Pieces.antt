@@ -3,7 +3,7 @@ use Rattle.std.proofs.Common.{◌≡◌, ℕ, zero, suc, ◌+◌, ◌-◌, ◌<�
 use Rattle.protocol.specs.Bytes.{Bytes, byte}
 use Rattle.protocol.specs.Pdus.{Amd}
 use Rattle.protocol.specs.Receiving as far
-use Rattle.rlc_rx.specs.Flags.{tally, is_held, NoneFrom, EndsAt, bounds, in_data, Merged}
+use Rattle.rlc_rx.specs.Flags.{is_held, NoneFrom, EndsAt, bounds, in_data, Merged}
 use Rattle.protocol.proofs.Seeks.{seek_before}
 use Rattle.rlc_rx.specs.Receptions.{handed}
 use Rattle.rlc_rx.specs.Slots.{partial, partial_of}
@@ -11,16 +11,12 @@ use Rattle.rlc_rx.specs.declared.slots.Slot.{Slot}
 use Rattle.std.specs.Bool.{then_some}
 use Rattle.std.specs.Option.{option_eq}
 use Rattle.rlc_rx.proofs.Merging.{data_outside, data_inside}
-use Rattle.rlc_rx.proofs.Seeking.{seek_none}
-use Rattle.rlc_rx.proofs.Tallies.{tally_below, holds_is, held_beyond, bounds_end, complete_is, none_higher}
-use Rattle.std.proofs.lemmas.List.{get_or_past}
-use Rattle.std.proofs.lemmas.Bool.{both_ways, cases_lt, cases_eq, eq-eqb, ne_eqb, cond-false, ltb-false, le-leb, and_from, or_left, or_right, or_from, or_parts, not-false, cond-true, eqb-true, and_right, le-ltb, lt-leb}
+use Rattle.rlc_rx.proofs.Seeking.{seek_past}
+use Rattle.rlc_rx.proofs.Tallies.{holds_is, held_beyond, bounds_end, complete_is, none_higher}
+use Rattle.std.proofs.lemmas.Bool.{both_ways, cases_lt, cases_eq, eq-eqb, ne_eqb, cond-false, ltb-false, le-leb, and_from, or_left, or_right, or_from, or_parts, not-false, cond-true, eqb-true, and_right, le-ltb}
 
 eqb_sym : (m n : ℕ) → eqb m n ≡ eqb n m
 eqb_sym m n = ⊎_elim (λ e. eq-eqb m n e ∙ sym (eq-eqb n m (sym e))) (λ d. ne_eqb m n d ∙ sym (ne_eqb n m (λ e. d (sym e)))) (cases_eq m n)
-
-pub tally_short : (flags : List Bool) → tally flags ≤ length flags
-tally_short flags = tally_below (length flags) flags (λ i le. get_or_past flags i false le)
 
 module _ (a : Amd) (bytes bs : Bytes) (held hs : List Bool) (new top : ℕ) (known : Option ℕ)
     (m : Merged (far.offset a.segment) (length a.payload) a.payload bytes bs held hs new) where
@@ -138,12 +134,4 @@ pub nothing_clashes : (a : Amd) → far.data_end a ≤ 502 → far.clashes far.n
 nothing_clashes a room = to 502 room
   where
     to : (n : ℕ) → far.data_end a ≤ n → (far.marks_end a.segment && ltb (far.held_from far.nothing_held (n - far.data_end a) (far.data_end a)) n) ≡ false
-    to n le = and_right _ _ (le-ltb _ n (omega (arith, seek_none (far.holds far.nothing_held) (λ j. refl) (n - far.data_end a) (far.data_end a), le)))
-
-pub nothing_discards : (a : Amd) → 1 ≤ length a.payload
-    → leb (far.data_end a) (far.missing_from far.nothing_held (length a.payload) (far.offset a.segment)) ≡ false
-nothing_discards a some = at (length a.payload) some
-  where
-    at : (n : ℕ) → 1 ≤ n → leb (far.offset a.segment + n) (far.missing_from far.nothing_held n (far.offset a.segment)) ≡ false
-    at zero h = absurd (omega (arith, h))
-    at (suc n) h = lt-leb _ _ (omega arith)
+    to n le = and_right _ _ (le-ltb _ n (omega (arith, seek_past (far.holds far.nothing_held) (n - far.data_end a) (far.data_end a) (λ j lo hi. refl), le)))

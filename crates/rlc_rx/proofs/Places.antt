@@ -1,5 +1,5 @@
 -- A ring of slots against the window that it stands for.
-use Rattle.std.proofs.Common.{◌≡◌, ℕ, ◌+◌, ◌%◌, ◌<◌, ◌≤◌, max, Bool, false, cond, not, ◌&&◌, ltb, ◌≢◌, ◌⊎◌, List, map, length, get_or, set, sym, refl, ap, ◌∙◌, ⊎_elim, arith}
+use Rattle.std.proofs.Common.{◌≡◌, ℕ, ◌+◌, ◌%◌, ◌<◌, ◌≤◌, max, Bool, false, cond, not, ◌&&◌, ltb, ◌≢◌, ◌⊎◌, List, map, length, get_or, set, sym, ap, ◌∙◌, ⊎_elim, arith}
 use Rattle.protocol.specs.Rings.{in_ring}
 use Rattle.protocol.specs.Searching.{update}
 use Rattle.protocol.proofs.Rings.{ring_same, ring_other}
@@ -13,10 +13,6 @@ pub ring_read : {S A : Type 0} (f : S → A) (slots : List S) (x : ℕ) (none : 
 ring_read f slots x none d size = get_or-map f slots (x % 16) d none (omega (arith, size))
 
 module _ {A : Type 0} (none : A) where
-  pub cleared_none : (from : ℕ) (ring : List A) → Cleared none from from ring ring
-  cleared_none from ring =
-      record { size = refl; cleared = λ x lo hi. absurd (omega (arith, lo, hi)); before = λ x lt le. refl; behind = λ x le lt. refl }
-
   pub cleared_more : (from x : ℕ) (ring ring' : List A) (a : A) → length ring ≡ 16 → from ≤ x → x < from + 16 → a ≡ none
       → Cleared none from x ring ring' → Cleared none from (x + 1) ring (set ring' (x % 16) a)
   cleared_more from x ring ring' a size lo hi is m =

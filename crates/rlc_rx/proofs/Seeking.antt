@@ -7,25 +7,7 @@ use Rattle.rlc_rx.specs.Flags.{is_held, wears}
 use Rattle.std.specs.Option.{MatchOption, unwrap_or}
 use Rattle.std.specs.List.{AllWithin, HoldsAt}
 use Rattle.std.proofs.lemmas.List.{length-take-le}
-use Rattle.std.proofs.lemmas.Bool.{both_ways, cases_lt, cases_eq, cond-true, cond-false, lt-ltb, le-ltb, or_left, or_right, or_from}
-
--- tests that agree find the same
-pub seek_same : (s t : ℕ → Bool) → ((j : ℕ) → s j ≡ t j) → (n i : ℕ) → seek s n i ≡ seek t n i
-seek_same s t e n i = ap (λ test. seek test n i) (λ k j. e j k)
-
-pub seek_here : (test : ℕ → Bool) (to i : ℕ) → i < to → test i ≡ true → seek test (to - i) i ≡ i
-seek_here test to i lt e =
-    let more : to - i ≡ suc (to - suc i) = omega (arith, lt) in
-    ap (λ n. seek test n i) more ∙ cond-true _ _ _ e
-
-pub seek_on : (test : ℕ → Bool) (to i : ℕ) → i < to → test i ≡ false → seek test (to - i) i ≡ seek test (to - (i + 1)) (i + 1)
-seek_on test to i lt e =
-    let more : to - i ≡ suc (to - (i + 1)) = omega (arith, lt) in
-    let next : suc i ≡ i + 1 = omega arith in
-    ap (λ n. seek test n i) more ∙ cond-false _ _ _ e ∙ ap (seek test (to - (i + 1))) next
-
-pub seek_over : (test : ℕ → Bool) (to i : ℕ) → to ≤ i → seek test (to - i) i ≡ i
-seek_over test to i le = let none : to - i ≡ 0 = omega (arith, le) in ap (λ n. seek test n i) none
+use Rattle.std.proofs.lemmas.Bool.{both_ways, cases_lt, cases_eq, lt-ltb, le-ltb, or_left, or_right, or_from}
 
 -- the code's test of a flag
 pub wears_is : (flag : Bool) (flags : List Bool) (i : ℕ) → wears flag flags i ≡ beq (is_held flags i) flag
@@ -46,10 +28,6 @@ seek_range s t zero i same = refl
 seek_range s t (suc n) i same =
     ap (λ b. cond b i (seek s n (suc i))) (same i (omega arith) (omega arith))
     ∙ ap (cond (t i) i) (seek_range s t n (suc i) (λ j lo hi. same j (omega (arith, lo)) (omega (arith, hi))))
-
-pub seek_none : (test : ℕ → Bool) → ((j : ℕ) → test j ≡ false) → (n i : ℕ) → seek test n i ≡ i + n
-seek_none test none zero i = omega arith
-seek_none test none (suc n) i = cond-false _ _ _ (none i) ∙ seek_none test none n (suc i) ∙ omega arith
 
 -- the first number that passes is the one found
 pub seek_first : (test : ℕ → Bool) (n from i : ℕ) → from ≤ i → i < from + n → test i ≡ true → ((k : ℕ) → from ≤ k → k < i → test k ≡ false) → seek test n from ≡ i

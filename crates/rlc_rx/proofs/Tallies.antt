@@ -5,40 +5,42 @@ use Rattle.protocol.specs.Receiving as far
 use Rattle.protocol.proofs.Seeks.{seek_from, seek_to, seek_found, seek_before, seek_least}
 use Rattle.rlc_rx.specs.Flags.{tally, is_held, NoneFrom, EndsAt, bounds}
 use Rattle.rlc_rx.specs.Slots.{partial}
+use Rattle.std.proofs.lemmas.List.Sums.{sum_by-cons, sum_by-set}
 use Rattle.std.proofs.lemmas.List.{get_or-replicate, get_or_past, length-replicate}
 use Rattle.std.proofs.lemmas.Bool.{and_parts, leb-true, cond-false, both_ways, cases_lt, cases_eq, lt-ltb, le-ltb, eq-eqb, ne_eqb, not-true, not-false}
 
 tail_none : (n : ℕ) (f : Bool) (fs : List Bool) → NoneFrom (suc n) (f ∷ fs) → NoneFrom n fs
 tail_none n f fs h i le = h (suc i) (omega (arith, le))
 
+-- what a flag counts for
+abbrev pub one : Bool → ℕ
+one flag = cond flag 1 0
+
 pub tally_below : (n : ℕ) (flags : List Bool) → NoneFrom n flags → tally flags ≤ n
 tally_below n [] h = omega arith
 tally_below zero (true ∷ fs) h = absurd (both_ways true (h 0 (omega arith)) refl)
-tally_below zero (false ∷ fs) h = omega (arith, tally_below zero fs (λ i le. h (suc i) (omega (arith, le))))
-tally_below (suc n) (true ∷ fs) h = omega (arith, tally_below n fs (tail_none n true fs h))
-tally_below (suc n) (false ∷ fs) h = omega (arith, tally_below n fs (tail_none n false fs h))
+tally_below zero (false ∷ fs) h = omega (arith, sum_by-cons one false fs, tally_below zero fs (λ i le. h (suc i) (omega (arith, le))))
+tally_below (suc n) (true ∷ fs) h = omega (arith, sum_by-cons one true fs, tally_below n fs (tail_none n true fs h))
+tally_below (suc n) (false ∷ fs) h = omega (arith, sum_by-cons one false fs, tally_below n fs (tail_none n false fs h))
 
 -- as many as there are places: each is set
 pub tally_full : (n : ℕ) (flags : List Bool) → NoneFrom n flags → tally flags ≡ n → (k : ℕ) → k < n → is_held flags k ≡ true
 tally_full n [] h e k lt = absurd (omega (arith, e, lt))
 tally_full zero (f ∷ fs) h e k lt = absurd (omega (arith, lt))
 tally_full (suc n) (true ∷ fs) h e zero lt = refl
-tally_full (suc n) (true ∷ fs) h e (suc k) lt = tally_full n fs (tail_none n true fs h) (omega (arith, e)) k (omega (arith, lt))
-tally_full (suc n) (false ∷ fs) h e k lt = absurd (omega (arith, e, tally_below n fs (tail_none n false fs h)))
+tally_full (suc n) (true ∷ fs) h e (suc k) lt = tally_full n fs (tail_none n true fs h) (omega (arith, sum_by-cons one true fs, e)) k (omega (arith, lt))
+tally_full (suc n) (false ∷ fs) h e k lt = absurd (omega (arith, sum_by-cons one false fs, e, tally_below n fs (tail_none n false fs h)))
 
 pub tally_all : (n : ℕ) (flags : List Bool) → n ≤ length flags → NoneFrom n flags → ((k : ℕ) → k < n → is_held flags k ≡ true)
     → tally flags ≡ n
 tally_all zero flags l h all = omega (arith, tally_below 0 flags h)
 tally_all (suc n) [] l h all = absurd (omega (arith, l))
 tally_all (suc n) (true ∷ fs) l h all =
-    omega (arith, tally_all n fs (omega (arith, l)) (tail_none n true fs h) (λ k lt. all (suc k) (omega (arith, lt))))
+    omega (arith, sum_by-cons one true fs, tally_all n fs (omega (arith, l)) (tail_none n true fs h) (λ k lt. all (suc k) (omega (arith, lt))))
 tally_all (suc n) (false ∷ fs) l h all = absurd (both_ways false refl (all 0 (omega arith)))
 
 pub tally-set : (flags : List Bool) (i : ℕ) → i < length flags → is_held flags i ≡ false → tally (set flags i true) ≡ tally flags + 1
-tally-set [] i lt h = absurd (omega (arith, lt))
-tally-set (true ∷ fs) zero lt h = absurd (both_ways true h refl)
-tally-set (false ∷ fs) zero lt h = omega arith
-tally-set (f ∷ fs) (suc i) lt h = omega (arith, tally-set fs i (omega (arith, lt)) h)
+tally-set flags i lt h = omega (arith, sum_by-set one flags i true false lt, ap one h)
 
 -- a slot's view ---------------------------------------------------------------------------------------------------------
 

@@ -8,7 +8,7 @@ use Rattle.protocol.specs.Timers.{Timer, stopped}
 use Rattle.protocol.proofs.Seeks.{update_same, update_other}
 use Rattle.rlc_rx.specs.Rings.{sdus_in, polls_in, far_in, Cleared}
 use Rattle.rlc_rx.specs.Slots.{partial_of, partials, polls}
-use Rattle.rlc_rx.specs.Windows.{sdus_of, far_with, window_of, Takes, stored, Waits, IsInWindow, IsSeen, MovesPast, trigger_passed}
+use Rattle.rlc_rx.specs.Windows.{sdus_of, far_with, window_of, Takes, stored, Waits, IsInWindow, IsSeen, MovesPast}
 use Rattle.rlc_rx.specs.declared.windows.Window.{Window}
 use Rattle.rlc_rx.proofs.Moves.{open_from, open_low, open_high, open_open, past, past_from, past_to, past_ordered, past_open, sdus_raised, sdus_same, polls_found}
 use Rattle.rlc_rx.proofs.Places.{window_seen, window_unseen, window_now, seen_was, polls_answered}
@@ -148,9 +148,6 @@ module _ (w : Window) (x : ℕ) (seen : IsSeen w x) (waits : status w ≢ x → 
     pub polls_from : next w ≤ status w'
     polls_from = omega (arith, m.status, raised, ordered)
 
-    pub polls_to : status w' ≤ next w + 16
-    polls_to = omega (arith, m.status, top, w.window)
-
     -- what the slots hold stays
     module _ (sdus : List far.Partial) (sdus_are : sdus ≡ partials w'.slots) where
       same : sdus ≡ partials w.slots
@@ -220,26 +217,3 @@ module _ (w : Window) (from : next w ≤ trigger w) (reached : ℕ) (reached_is 
         ap (λ ps. far.complete (sdus_in (next w) (high w) ps reached)) sdus_are ∙ ap (λ z. far.complete (sdus_of w z)) reached_is
         ∙ open_open (sdus_of w) (high w) (trigger w) w.trigger
         (ap far.complete (window_unseen far.complete_sdu far.nothing_held (next w) (high w) (partials w.slots) (high w) (omega (arith, from, w.trigger)) (omega arith)))
-
-    pub passed_is : (flags : List Bool) (low : ℕ) → low ≡ next w → Cleared false low reached (polls w.slots) flags → (t : Timer) (r : far.Reporting) (p : Timer)
-        → far_in (next w) (high w) reached (trigger w) sdus flags stopped r p ≡ trigger_passed (far_with w t r p)
-    passed_is flags low low_is cleared t r p =
-        λ k. record {
-          rx_next = next w;
-          rx_next_highest = high w;
-          rx_highest_status = reached_is k;
-          rx_next_status_trigger = trigger w;
-          sdu = sdus_in (next w) (high w) (sdus_are k);
-          poll = polls_passed k;
-          t_reassembly = stopped;
-          reporting = r;
-          t_status_prohibit = p;
-        }
-      where
-        below : open_from (sdus_of w) (high w) (trigger w) ≤ high w
-        below = open_high (sdus_of w) (high w) (trigger w) w.trigger
-
-        polls_passed : polls_in (next w) (high w) flags ≡ (λ y. not (ltb y (open_from (sdus_of w) (high w) (trigger w))) && polls_of w y)
-        polls_passed =
-            polls_answered (next w) (next w) (open_from (sdus_of w) (high w) (trigger w)) (high w) (polls w.slots) flags (omega arith) (omega (arith, reached_is, reached_low)) below w.window
-            (subst (λ z. Cleared false (next w) z (polls w.slots) flags) reached_is (subst (λ z. Cleared false z reached (polls w.slots) flags) low_is cleared))

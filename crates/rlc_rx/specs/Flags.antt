@@ -1,12 +1,11 @@
 -- The flags of an SDU's bytes: which are held, how many, and where they end.
-use Rattle.std.specs.Prelude.{◌≡◌, ℕ, ◌+◌, ◌-◌, ◌≤◌, Bool, true, false, cond, not, ◌&&◌, ◌||◌, List, [], ◌∷◌, length, Some, None, Option, nat_le, nat_lt, slice_index_or}
+use Rattle.std.specs.Prelude.{◌≡◌, ℕ, ◌+◌, ◌-◌, ◌≤◌, Bool, true, false, cond, not, ◌&&◌, ◌||◌, List, length, count_by, Some, None, Option, nat_le, nat_lt, slice_index_or}
 use Rattle.protocol.specs.Bytes.{Bytes, byte}
 use Rattle.protocol.specs.Reading.{max_sdu}
 
 -- how many are set
 abbrev pub tally : List Bool → ℕ
-tally [] = 0
-tally (flag ∷ flags) = cond flag 1 0 + tally flags
+tally flags = count_by (λ flag. flag) flags
 
 abbrev pub is_held : List Bool → ℕ → Bool
 is_held flags i = slice_index_or flags i false

@@ -17,5 +17,5 @@ abbrev pub state_of : FarEnd → State
 state_of e = (settings_of e.settings, far_of e)
 
 -- the state after a rule
-abbrev pub after : (Settings → Far → Far) → State → State
-after rule state = (state.0, rule state.0 state.1)
+abbrev pub state_after : (Settings → Far → Far) → State → State
+state_after rule state = (state.0, rule state.0 state.1)

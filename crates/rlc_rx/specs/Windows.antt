@@ -34,7 +34,7 @@ Answers answered step old new =
 abbrev pub stored : Window → ℕ → Partial
 stored w x = in_ring (partials w.slots) x nothing_held
 
--- a report speaks of all that lies below a count that is not complete
+-- the count that a report speaks up to is not complete
 abbrev pub Waits : Window → Type 0
 Waits w = complete (sdus_of w (count_of w.rx_highest_status)) ≡ false
 

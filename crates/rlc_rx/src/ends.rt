@@ -19,7 +19,7 @@ use crate::reporting::Reporting;
 use crate::windows::Window;
 use protocol::PACKET_LIMIT;
 use timers::{Settings, Timer};
-use wire::{Draft, End, Fault, Grant, NotClosed, Pdu, Reader, Refusal, RlcCount};
+use wire::{Draft, End, Fault, Grant, Pdu, Reader, Refusal, RlcCount};
 
 /// RLC's receiving side: it puts SDUs together from segments, and reports what is missing.
 #[derive(Drop)]
@@ -36,7 +36,7 @@ pub struct FarEnd {
 impl FarEnd {
     ghost use Rattle.rlc_rx.specs.Receptions.{sdu_at, answer_of, receiving, reading};
     ghost use Rattle.rlc_rx.specs.Spending.{Listed, spending};
-    ghost use Rattle.rlc_rx.specs.Views.{far_of, state_of, after};
+    ghost use Rattle.rlc_rx.specs.Views.{far_of, state_of, state_after};
 
     /// A far end that has received nothing.
     pub fn new(settings: Settings) -> FarEnd
@@ -54,7 +54,7 @@ impl FarEnd {
     /// Starts t-Reassembly if it does not run and something from `low` on is missing.
     fn await_from(&mut self, low: RlcCount)
         requires { IsInRange self.old.window (count_of low) }
-        ensures state { state_of self.new ≡ after (λ s. awaited s (count_of low)) (state_of self.old) }
+        ensures state { state_of self.new ≡ state_after (λ s. awaited s (count_of low)) (state_of self.old) }
         ensures slots { self.new.window.slots ≡ self.old.window.slots }
     {
         if !self.t_reassembly.is_running() && self.window.is_awaited(low) {
@@ -67,7 +67,7 @@ impl FarEnd {
     fn take(&mut self, x: RlcCount, pdu: &DataPdu)
         requires inside { IsInWindow self.old.window (count_of x) }
         requires fits { clashes ((far_of self.old).sdu (count_of x)) (data_pdu_of pdu.now) ≡ false }
-        ensures state { state_of self.new ≡ after (λ s. taken s (count_of x) (data_pdu_of pdu.now)) (state_of self.old) }
+        ensures state { state_of self.new ≡ state_after (λ s. taken s (count_of x) (data_pdu_of pdu.now)) (state_of self.old) }
         ensures held { stored self.new.window (count_of x) ≡ received (data_pdu_of pdu.now) ((far_of self.old).sdu (count_of x)) }
     {
         self.window.keep(x, pdu);
@@ -79,6 +79,7 @@ impl FarEnd {
         self.await_from(low);
     }
 
+    /// What becomes of a data PDU.
     fn receive(&mut self, pdu: &DataPdu) -> Result<Reception, Fault>
         ensures { (answer_of self.new result, state_of self.new) ≡ receiving (data_pdu_of pdu.now) (state_of self.old) }
     {
@@ -156,10 +157,10 @@ impl FarEnd {
     {
         let mut draft = Draft::open();
         let ack = self.list_missing(size - 3, &mut draft, buffer)?;
-        match draft.close(ack.sn(), buffer) {
-            Ok(closed) => Ok(closed.size()),
-            Err(NotClosed { fault, .. }) => Err(fault),
-        }
+        draft
+            .close(ack.sn(), buffer)
+            .map(|closed| closed.size())
+            .map_err(|refused| refused.fault)
     }
 
     /// Spends a grant: writes a status report at the buffer's start, if one is wanted, and answers its length.
@@ -183,7 +184,7 @@ impl FarEnd {
     /// t-Reassembly has run out: what is missing below the trigger is reported, and what lies beyond is waited for.
     fn give_up(&mut self)
         requires { count_of self.old.window.rx_next ≤ count_of self.old.window.rx_next_status_trigger }
-        ensures { state_of self.new ≡ after given_up (state_of self.old) }
+        ensures { state_of self.new ≡ state_after given_up (state_of self.old) }
     {
         self.window.pass_trigger();
         self.t_reassembly = Timer::Stopped;
@@ -193,7 +194,7 @@ impl FarEnd {
     }
 
     fn tick_reassembly(&mut self)
-        ensures { state_of self.new ≡ after tick_reassembly (state_of self.old) }
+        ensures { state_of self.new ≡ state_after tick_reassembly (state_of self.old) }
     {
         if self.t_reassembly.tick() {
             self.give_up();
@@ -201,7 +202,7 @@ impl FarEnd {
     }
 
     fn tick_prohibit(&mut self)
-        ensures { state_of self.new ≡ after (λ _. tick_prohibit) (state_of self.old) }
+        ensures { state_of self.new ≡ state_after (λ _. tick_prohibit) (state_of self.old) }
     {
         if self.t_status_prohibit.tick() {
             self.reporting.unbar();
@@ -210,7 +211,7 @@ impl FarEnd {
 
     /// One Tick of this end.
     pub fn tick(&mut self)
-        ensures { state_of self.new ≡ after tick_far (state_of self.old) }
+        ensures { state_of self.new ≡ state_after tick_far (state_of self.old) }
     {
         self.tick_reassembly();
         self.tick_prohibit();

@@ -10,6 +10,7 @@ pub(crate) fn find_flag(flags: &[bool], flag: bool, from: usize, to: usize) -> u
     requires room { to ≤ length flags.now }
     ensures { result ≡ seek (wears flag flags.now) (to - from) from }
 {
+    // No `map_or`: its closure would need a `requires` of its own for the sum.
     match flags[from..to].iter().position(|f| *f == flag) {
         Some(steps) => from + steps,
         None => to,

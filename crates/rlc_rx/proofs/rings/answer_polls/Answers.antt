@@ -1,19 +1,12 @@
-use Rattle.std.proofs.Common.{◌≡◌, ◌+◌, ◌-◌, ◌%◌, ◌<◌, false, ◌||◌, ltb, set, sym, refl, ap, ◌∙◌, subst, arith}
+use Rattle.std.proofs.Common.{◌≡◌, ◌+◌, ◌-◌, ◌%◌, ◌<◌, false, ◌||◌, ltb, set, sym, ap, ◌∙◌, subst, arith}
 use Rattle.protocol.specs.Rings.{in_ring}
 use Rattle.protocol.specs.Searching.{seek}
-use Rattle.rlc_rx.proofs.Places.{ring_read, cleared_none, cleared_more}
-use Rattle.rlc_rx.proofs.Seeking.{seek_more, seek_over}
+use Rattle.rlc_rx.proofs.Places.{ring_read, cleared_more}
+use Rattle.rlc_rx.proofs.Seeking.{seek_more}
 use Rattle.rlc_rx.proofs.rings.answer_polls.Goals as goal
 use Rattle.rlc_rx.specs.Slots.{partial_of, partials, polls}
 use Rattle.rlc_rx.specs.Rings.{Cleared}
 use Rattle.std.proofs.lemmas.List.{length-map, length-set, map-set, set-get_or, get_or-map}
-use Rattle.std.proofs.lemmas.Bool.{le-ltb}
-
-pub loop-x-init : goal.loop-x-init
-loop-x-init c =
-    let from = c.args.from in
-    let old = c.args.slots.now in
-    (sym (le-ltb _ from (omega (arith, seek_over (λ x. in_ring (polls old) x false) from from (omega arith)))), refl, cleared_none false from (polls old), c.told-slots)
 
 pub loop-x-preserved : goal.loop-x-preserved
 loop-x-preserved c =
@@ -38,14 +31,3 @@ loop-x-preserved c =
       subst (λ ps. Cleared false from (x + 1) (polls old) ps) (sym (map-set (λ s. s.poll) slots (x % 16) slot)) flags,
       length-set slots (x % 16) slot ∙ size,
     )
-
-pub returns : goal.returns
-returns c =
-    let from = c.args.from in
-    let old = c.args.slots.now in
-    let end : c.loop-x.x ≡ c.args.to = omega (arith, c.loop-x.auto.x-end c.requires.ordered, c.loop-x-test.false) in
-    record {
-      answer = c.loop-x.invariant.0 ∙ ap (λ z. ltb (seek (λ y. in_ring (polls old) y false) (z - from) from) z) end;
-      sdus = c.loop-x.invariant.1;
-      flags = subst (λ to. Cleared false from to (polls old) (polls c.loop-x.slots)) end c.loop-x.invariant.2;
-    }

@@ -1,14 +1,10 @@
-use Rattle.std.proofs.Common.{◌≡◌, ◌+◌, ◌%◌, ◌<◌, false, sym, ◌∙◌, subst, arith}
+use Rattle.std.proofs.Common.{◌+◌, ◌%◌, ◌<◌, false, sym, ◌∙◌, subst, arith}
 use Rattle.protocol.specs.Receiving.{nothing_held}
-use Rattle.rlc_rx.proofs.Places.{cleared_none, cleared_more}
+use Rattle.rlc_rx.proofs.Places.{cleared_more}
 use Rattle.rlc_rx.proofs.rings.clear.Goals as goal
 use Rattle.rlc_rx.specs.Slots.{partial_of, partials, polls}
 use Rattle.rlc_rx.specs.Rings.{Cleared}
 use Rattle.std.proofs.lemmas.List.{length-map, length-set, map-set}
-
-pub loop-x-init : goal.loop-x-init
-loop-x-init c =
-    (cleared_none nothing_held c.args.from (partials c.args.slots.now), cleared_none false c.args.from (polls c.args.slots.now), c.told-slots)
 
 pub loop-x-preserved : goal.loop-x-preserved
 loop-x-preserved c =
@@ -23,11 +19,3 @@ loop-x-preserved c =
       subst (λ ps. Cleared false c.args.from (x + 1) (polls old) ps) (sym (map-set (λ s. s.poll) slots (x % 16) slot)) flags,
       length-set slots (x % 16) slot ∙ c.loop-x.invariant.2,
     )
-
-pub returns : goal.returns
-returns c =
-    let end : c.loop-x.x ≡ c.args.to = omega (arith, c.loop-x.auto.x-end c.requires.ordered, c.loop-x-test.false) in
-    record {
-      sdus = subst (λ to. Cleared nothing_held c.args.from to (partials c.args.slots.now) (partials c.loop-x.slots)) end c.loop-x.invariant.0;
-      flags = subst (λ to. Cleared false c.args.from to (polls c.args.slots.now) (polls c.loop-x.slots)) end c.loop-x.invariant.1;
-    }

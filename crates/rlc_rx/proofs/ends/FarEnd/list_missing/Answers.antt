@@ -1,8 +1,8 @@
-use Rattle.std.proofs.Common.{◌≡◌, ◌+◌, ◌-◌, ◌<◌, ◌≤◌, true, false, Ok, Err, Result, sym, ap, ◌∙◌, subst, arith}
+use Rattle.std.proofs.Common.{◌≡◌, ◌+◌, ◌-◌, ◌<◌, true, false, Ok, Err, Result, sym, ap, ◌∙◌, subst, arith}
 use Rattle.protocol.specs.Drafts.{fill}
 use Rattle.protocol.specs.Receiving as far
 use Rattle.protocol.specs.declared.faults.Fault.{Fault}
-use Rattle.rlc_rx.proofs.Listing.{report_at, fill_behind, report_complete, report_stops, report_lists, report_over}
+use Rattle.rlc_rx.proofs.Listing.{report_at, fill_behind, report_complete, report_stops, report_lists}
 use Rattle.rlc_rx.proofs.ends.FarEnd.list_missing.Goals as goal
 use Rattle.rlc_rx.specs.Slots.{partial_of}
 use Rattle.rlc_rx.specs.Entries.{entries_left}
@@ -13,15 +13,6 @@ use Rattle.wire.specs.Drafted.{draft_of}
 use Rattle.wire.specs.Counts.{count_of}
 use Rattle.wire.specs.declared.counts.Count.{Count}
 use Rattle.wire.specs.declared.counts.Rlc.{Rlc}
-
-pub loop-x-init : goal.loop-x-init
-loop-x-init c =
-    let f = far_of c.args.self.now in
-    let start = sym c.value-start.ensures in (
-      ap (λ y. (report_at f f.rx_highest_status y c.args.most).ack) start,
-      ap (λ y. fill (report_at f f.rx_highest_status y c.args.most).entries (draft_of c.args.draft.now) c.args.buffer.now) start,
-      omega arith,
-    )
 
 pub loop-x-preserved-then-is_complete : goal.loop-x-preserved-then-is_complete
 loop-x-preserved-then-is_complete c =
@@ -97,13 +88,3 @@ loop-x-preserved c =
     let adds = c.in_ok-add_to.ensures ∙ ap (λ es. fill es d b) (c.new-in-loop-x.ensures ∙ sym c.new.ensures ∙ own-is) in
     let rest = (report_at f f.rx_highest_status (x + 1) (room - c.bytes-length.result)).entries in
     (inv.0 ∙ ap (λ r. r.ack) lists, inv.1 ∙ ap (λ r. fill r.entries d b) lists ∙ fill_behind own rest d d' b b' (Ok tt) adds, omega (arith, inv.2))
-
-pub returns : goal.returns
-returns c =
-    let f = far_of c.args.self.now in
-    let x = c.loop-x.x in
-    let inv = c.loop-x.invariant in
-    let low : c.value-start.result ≤ c.value-x-end.result = omega (arith, c.value-start.ensures, c.value-x-end.ensures, c.args.self.now.window.status_from) in
-    let end : x ≡ f.rx_highest_status = omega (arith, c.loop-x.auto.x-end low, c.loop-x-test.false, c.value-x-end.ensures) in
-    let over = report_over f f.rx_highest_status x c.loop-x.room (omega (arith, end)) in
-    (sym end ∙ sym (inv.0 ∙ ap (λ r. r.ack) over), inv.1 ∙ ap (λ r. fill r.entries (draft_of c.loop-x.draft) c.loop-x.buffer) over)

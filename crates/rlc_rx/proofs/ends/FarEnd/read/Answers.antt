@@ -1,12 +1,8 @@
 use Rattle.std.proofs.Common.{Ok, Result, sym, ap, ◌∙◌}
 use Rattle.protocol.specs.Pdus.{Pdu}
-use Rattle.protocol.specs.Receiving as far
 use Rattle.protocol.specs.declared.faults.Fault.{Fault}
 use Rattle.rlc_rx.proofs.Arrives.{far_reads}
 use Rattle.rlc_rx.proofs.ends.FarEnd.read.Goals as goal
-use Rattle.rlc_rx.specs.Receptions.{outcome}
-use Rattle.rlc_rx.specs.Views.{far_of, state_of}
-use Rattle.timers.specs.Views.{settings_of}
 use Rattle.wire.specs.Views.{pdu_of, amd_of}
 
 pub invariant_of-receive : goal.invariant_of-receive
@@ -14,9 +10,3 @@ invariant_of-receive c =
     let a = amd_of c.in-Amd.header c.in-Amd.data.bytes.now in
     let r = far_reads c.args.bytes.now a (sym c.in_ok-pdu.ensures.value ∙ ap {B = Result Pdu Fault} (λ p. Ok (pdu_of p)) c.in-Amd.is) in
     record { some = r.some; short = r.room }
-
-pub returns-in-Amd : goal.returns-in-Amd
-returns-in-Amd c =
-    let e = c.args.self.now in
-    let read = sym c.in_ok-pdu.ensures.value ∙ ap {B = Result Pdu Fault} (λ p. Ok (pdu_of p)) c.in-Amd.is in
-    c.receive.ensures ∙ sym (ap (λ d. outcome (state_of e) (far.reads (settings_of e.settings) d (far_of e))) read)

@@ -1,4 +1,4 @@
-use Rattle.std.proofs.Common.{◌≡◌, ℕ, ◌+◌, ◌%◌, ◌<◌, ◌≤◌, length, Ok, Err, Result, sym, ap, ◌∙◌, arith}
+use Rattle.std.proofs.Common.{◌≡◌, ℕ, ◌+◌, ◌%◌, ◌<◌, ◌≤◌, length, Ok, Err, Result, sym, refl, ap, ◌∙◌, arith, rules}
 use Rattle.protocol.specs.Drafts.{Draft, Step, opened, fill, close}
 use Rattle.protocol.specs.Receiving as far
 use Rattle.protocol.specs.declared.faults.Fault.{Fault}
@@ -6,8 +6,10 @@ use Rattle.rlc_rx.proofs.Writes.{sdus_short, filled, closes}
 use Rattle.rlc_rx.proofs.ends.FarEnd.write_report.Goals as goal
 use Rattle.rlc_rx.specs.Views.{far_of}
 use Rattle.rlc_rx.specs.declared.ends.FarEnd.{FarEnd}
-use Rattle.wire.specs.Drafted.{draft_of}
+use Rattle.wire.specs.Drafted.{draft_of, closing}
 use Rattle.wire.specs.Counts.{count_of, sn_of}
+use Rattle.wire.specs.declared.drafts.Closed.{Closed}
+use Rattle.wire.specs.declared.drafts.NotClosed.{NotClosed}
 use Rattle.protocol.specs.Bytes.{Bytes, put}
 use Rattle.protocol.specs.Pdus.{encode}
 
@@ -40,16 +42,14 @@ closing_is e size ack sn b b' start d step least room open_is ack-is sn-is fills
     let is = closing ∙ ap (λ n. close n d b') number in
     (ap (λ s. s.answer) is ∙ w.0, ap (λ s. s.buffer) is ∙ w.1)
 
-pub returns-in-Ok : goal.returns-in-Ok
-returns-in-Ok c =
-    let listed = c.in_ok-ack.ensures in
-    let w = closing_is c.args.self.now c.args.size (count_of c.in_ok-ack.ack) (sn_of c.sn.result) c.args.buffer.now c.list_missing.new.buffer
-    (draft_of c.open-draft.result) (draft_of c.list_missing.new.draft) _ c.requires.least c.requires.room c.open-draft.ensures listed.0 c.sn.ensures listed.1 c.in-Ok.ensures in
-    record { answer = ap {B = Result ℕ Fault} Ok c.size.ensures ∙ w.0; written = w.1 }
+closing-buffer : (d : Draft) (r : Result Closed NotClosed) (b : Bytes) → (closing d r b).buffer ≡ b
+closing-buffer d (Ok closed) b = refl
+closing-buffer d (Err refused) b = refl
 
-pub returns-in-Err : goal.returns-in-Err
-returns-in-Err c =
+pub returns : goal.returns
+returns c =
     let listed = c.in_ok-ack.ensures in
     let w = closing_is c.args.self.now c.args.size (count_of c.in_ok-ack.ack) (sn_of c.sn.result) c.args.buffer.now c.list_missing.new.buffer
-    (draft_of c.open-draft.result) (draft_of c.list_missing.new.draft) _ c.requires.least c.requires.room c.open-draft.ensures listed.0 c.sn.ensures listed.1 c.in-Err.ensures in
-    record { answer = w.0; written = w.1 }
+    (draft_of c.open-draft.result) (draft_of c.list_missing.new.draft) _ c.requires.least c.requires.room c.open-draft.ensures listed.0 c.sn.ensures listed.1 c.close.ensures in
+    let same : c.map_err.result ≡ (closing (draft_of c.list_missing.new.draft) c.close.result c.close.new.buffer).answer = search rules in
+    record { answer = same ∙ w.0; written = sym (closing-buffer _ c.close.result _) ∙ w.1 }

@@ -1,8 +1,9 @@
-use Rattle.std.proofs.Common.{◌≡◌, ◌+◌, ◌≤◌, max, cond, length, Some, sym, ap, ◌∙◌, subst, arith, rules}
+use Rattle.std.proofs.Common.{◌≡◌, ◌+◌, ◌≤◌, max, cond, length, Some, sym, ap, ◌∙◌, subst, arith}
 use Rattle.protocol.specs.Pdus.{Amd}
 use Rattle.protocol.specs.Receiving.{data_end, marks_end}
-use Rattle.rlc_rx.proofs.Pieces.{tally_short, grown_beyond, grown_highest, received_is, bounds_after}
+use Rattle.rlc_rx.proofs.Pieces.{grown_beyond, grown_highest, received_is, bounds_after}
 use Rattle.rlc_rx.proofs.slots.Slot.receive.Goals as goal
+use Rattle.std.proofs.lemmas.List.Sums.{count_by-le-length}
 use Rattle.rlc_rx.specs.DataPdus.{data_pdu_of}
 use Rattle.rlc_rx.specs.Flags.{Merged, NoneFrom, EndsAt, bounds}
 
@@ -10,7 +11,7 @@ pub overflow_add-self : goal.overflow_add-self
 overflow_add-self c =
     let s = c.args.self.now in
     let m = c.put.ensures in
-    let few : s.count + c.put.result ≤ 502 = omega (arith, s.counted, m.counted, tally_short c.put.new.held, m.sizes.1, s.room.1) in
+    let few : s.count + c.put.result ≤ 502 = omega (arith, s.counted, m.counted, count_by-le-length (λ flag. flag) c.put.new.held, m.sizes.1, s.room.1) in
     omega arith
 
 pub invariant_of-self : goal.invariant_of-self
@@ -32,9 +33,9 @@ invariant_of-self c =
       bounded = ap (λ e. bounds e c.max-self.result) c.end_after-self.ensures ∙ ap (bounds (cond (marks_end a.segment) (Some (data_end a)) s.known_end)) (sym top) ∙ bounded;
     }
 
-pub returns : goal.returns
-returns c =
+pub returns-clause-sdu : goal.returns-clause-sdu
+returns-clause-sdu c =
     let s = c.args.self.now in
     let a : Amd = data_pdu_of c.args.pdu.now in
     let m = subst (λ o. Merged o (length a.payload) a.payload s.bytes c.put.new.bytes s.held c.put.new.held c.put.result) c.offset.ensures c.put.ensures in
-    record { sdu = received_is a _ _ _ _ _ s.top s.known_end m c.end_after-self.result c.end_after-self.ensures; poll = search rules }
+    received_is a _ _ _ _ _ s.top s.known_end m c.end_after-self.result c.end_after-self.ensures

@@ -1,16 +1,9 @@
 use Rattle.std.proofs.Common.{ap, ◌∙◌}
-use Rattle.protocol.specs.Receiving.{clashes}
-use Rattle.rlc_rx.proofs.WindowSteps.{had, takes_kept}
+use Rattle.rlc_rx.proofs.WindowSteps.{takes_kept}
 use Rattle.rlc_rx.proofs.windows.Window.keep.Goals as goal
 use Rattle.rlc_rx.specs.DataPdus.{data_pdu_of}
 use Rattle.rlc_rx.specs.Slots.{partials, polls}
 use Rattle.wire.specs.Counts.{count_of}
-
-pub receive-requires : goal.receive-requires
-receive-requires c =
-    let x = count_of c.args.x in
-    let was = had c.args.self.now x c.requires.inside _ _ _ c.value-seen.ensures c.value-count.ensures c.max.ensures (partials c.clear.new.slots) c.clear.ensures.sdus in
-    ap (λ p. clashes p (data_pdu_of c.args.pdu.now)) was ∙ c.requires.fits
 
 pub returns : goal.returns
 returns c =
