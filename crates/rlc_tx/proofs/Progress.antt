@@ -9,6 +9,7 @@ use Rattle.rlc_tx.specs.Touches.{named_of, counted_of, counted_if, touch_at, nam
 use Rattle.rlc_tx.specs.Windows.{sdus_in, bare, Holds}
 use Rattle.rlc_tx.specs.declared.reporting.Touch.{Touch}
 use Rattle.rlc_tx.specs.declared.windows.Window.{Window}
+use Rattle.std.proofs.Math.Bool.{or-false, or-true, and-false, or_assoc}
 use Rattle.std.proofs.lemmas.Bool.{both_ways, cond-true, cond-false, lt-ltb, ltb-true, eqb-true}
 use Rattle.wire.specs.Counts.{count_of}
 
@@ -18,23 +19,15 @@ module _ (n : near.Near) (e : Entry) (x : ℕ) where
   abbrev hits : Bool
   hits = eqb (near.tx_count n e.nack_sn) x
 
-  or_swap : (a b c : Bool) → (a || (b || c)) ≡ ((a || b) || c)
-  or_swap true b c = refl
-  or_swap false b c = refl
-
-  or_none : (a : Bool) → (a || false) ≡ a
-  or_none true = refl
-  or_none false = refl
-
   pub named_more : (es : List Entry) → near.named n (es ++ e ∷ []) x ≡ (near.named n es x || eqb (near.tx_count n e.nack_sn) x)
-  named_more [] = or_none hits
-  named_more (d ∷ es) = ap (λ b. eqb (near.tx_count n d.nack_sn) x || b) (named_more es) ∙ or_swap _ (near.named n es x) hits
+  named_more [] = or-false hits
+  named_more (d ∷ es) = ap (λ b. eqb (near.tx_count n d.nack_sn) x || b) (named_more es) ∙ sym (or_assoc _ (near.named n es x) hits)
 
   pub bytes_more : (es : List Entry) (i : ℕ) → near.named_byte n (es ++ e ∷ []) x i ≡ (near.named_byte n es x i || (eqb (near.tx_count n e.nack_sn) x && near.names_byte e.missing i))
-  bytes_more [] i = or_none (hits && near.names_byte e.missing i)
+  bytes_more [] i = or-false (hits && near.names_byte e.missing i)
   bytes_more (d ∷ es) i =
       ap (λ b. (eqb (near.tx_count n d.nack_sn) x && near.names_byte d.missing i) || b) (bytes_more es i)
-      ∙ or_swap _ (near.named_byte n es x i) (hits && near.names_byte e.missing i)
+      ∙ sym (or_assoc _ (near.named_byte n es x i) (hits && near.names_byte e.missing i))
 
 -- an SDU that is not named has no byte that is
 pub unnamed_bytes : (n : near.Near) (es : List Entry) (x i : ℕ) → near.named n es x ≡ false → near.named_byte n es x i ≡ false
@@ -92,21 +85,9 @@ staged_open in_window acknowledged named bytes s = go (in_window && (not acknowl
     go true = refl
     go false = refl
 
-or_right_true : (a : Bool) → (a || true) ≡ true
-or_right_true true = refl
-or_right_true false = refl
-
-or_right_false : (a : Bool) → (a || false) ≡ a
-or_right_false true = refl
-or_right_false false = refl
-
-and_right_false : (a : Bool) → (a && false) ≡ false
-and_right_false true = refl
-and_right_false false = refl
-
 module _ (s : near.Sdu) (named : Bool) (bytes more : ℕ → Bool) (t : Touch) where
   nothing_new : (λ i. bytes i || (false && more i)) ≡ bytes
-  nothing_new = λ k. λ i. or_right_false (bytes i) k
+  nothing_new = λ k. λ i. or-false (bytes i) k
 
   -- what becomes of the SDU
   pub staged_more : (in_window acknowledged hit : Bool) → s.acknowledged ≡ acknowledged
@@ -118,9 +99,9 @@ module _ (s : near.Sdu) (named : Bool) (bytes more : ℕ → Bool) (t : Touch) w
   staged_more true true hit is step = cond-false _ _ _ (ap (λ b. not b && hit) is)
   staged_more true false true is step =
       cond-true _ _ _ (ap (λ b. not b && true) (staged_open true false named bytes s ∙ is)) ∙ step refl refl refl
-      ∙ sym (cond-true _ _ _ (or_right_true named))
+      ∙ sym (cond-true _ _ _ (or-true named))
   staged_more true false false is step =
-      cond-false _ _ _ (and_right_false _) ∙ sym (ap (λ b. staged true false b (λ i. bytes i || (false && more i)) s) (or_right_false named) ∙ ap (λ f. staged true false named f s) nothing_new)
+      cond-false _ _ _ (and-false _) ∙ sym (ap (λ b. staged true false b (λ i. bytes i || (false && more i)) s) (or-false named) ∙ ap (λ f. staged true false named f s) nothing_new)
 
   -- what is noted of it
   pub noted_more : (in_window acknowledged hit : Bool) → in_window ≡ true → s.acknowledged ≡ acknowledged → Noted named bytes s t
@@ -128,15 +109,15 @@ module _ (s : near.Sdu) (named : Bool) (bytes more : ℕ → Bool) (t : Touch) w
       → Noted (named || hit) (λ i. bytes i || (hit && more i)) s (cond hit (named_touch more (counted_of t) (staged in_window acknowledged named bytes s)) t)
   noted_more in_window acknowledged false inside is noted step =
       record {
-        names = noted.names ∙ sym (or_right_false named);
+        names = noted.names ∙ sym (or-false named);
         changed = λ open_now.
             noted.changed open_now
-            ∙ sym (ap (λ b. b && counts s.retx_count (near.newly_pending (λ i. bytes i || (false && more i)) s)) (or_right_false named) ∙ ap (λ f. named && counts s.retx_count (near.newly_pending f s)) nothing_new);
+            ∙ sym (ap (λ b. b && counts s.retx_count (near.newly_pending (λ i. bytes i || (false && more i)) s)) (or-false named) ∙ ap (λ f. named && counts s.retx_count (near.newly_pending f s)) nothing_new);
       }
   noted_more in_window true true inside is noted step =
       record {
         names =
-            ap named_of (cond-true _ _ _ (staged_open in_window true named bytes s ∙ is)) ∙ sym (or_right_true named);
+            ap named_of (cond-true _ _ _ (staged_open in_window true named bytes s ∙ is)) ∙ sym (or-true named);
         changed = λ open_now. absurd (both_ways _ open_now is);
       }
   noted_more in_window false true inside is noted step =
@@ -144,8 +125,8 @@ module _ (s : near.Sdu) (named : Bool) (bytes more : ℕ → Bool) (t : Touch) w
       cond-false _ _ _ (staged_open in_window false named bytes s ∙ is)
       ∙ ap (λ w. counted_if (counted_by (counted_of t) more (staged w false named bytes s))) inside ∙ ap counted_if (step refl refl) in
       record {
-        names = ap named_of touch ∙ counted_if_named _ ∙ sym (or_right_true named);
-        changed = λ open_now. ap counted_of touch ∙ counted_if_counted _ ∙ sym (ap (λ b. b && counts s.retx_count (near.newly_pending (λ i. bytes i || more i) s)) (or_right_true named));
+        names = ap named_of touch ∙ counted_if_named _ ∙ sym (or-true named);
+        changed = λ open_now. ap counted_of touch ∙ counted_if_counted _ ∙ sym (ap (λ b. b && counts s.retx_count (near.newly_pending (λ i. bytes i || more i) s)) (or-true named));
       }
 
 -- the window after some entries

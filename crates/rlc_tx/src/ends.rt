@@ -91,7 +91,8 @@ impl NearEnd {
         ensures state { state_of self.new ≡ after (λ _. given packet.now) (state_of self.old) }
     {
         let count = self.pdcp_tx_next;
-        self.window.push(Slot::new(count.sn(), packet));
+        let slot = Slot::new(count.sn(), packet);
+        self.window.push(slot);
         self.pdcp_tx_next = count.saturating_plus(1);
         count
     }

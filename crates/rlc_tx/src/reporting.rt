@@ -77,7 +77,8 @@ impl Window {
         touches[place] = self.consider_named(count, entry, touches[place]);
     }
 
-    /// All entries, in order. Answers what is noted of each SDU.
+    /// All entries, in order. Answers what is noted of each SDU, at its count modulo 16: it lives as long as the
+    /// report, and so beside the window's slots.
     fn consider_entries(&mut self, entries: Entries) -> [Touch; WINDOW_SIZE]
         ensures sdus { bare self.new ≡ with_sdus (bare self.old) (considered_in (bare self.old) (entries_of entries.entry)) }
         ensures named { (x : ℕ) → Holds self.old x → named_of (touch_at result x) ≡ named (bare self.old) (entries_of entries.entry) x }

@@ -14,13 +14,14 @@ use protocol::MAX_SDU;
 use std::ops::Range;
 use wire::{Missing, RlcCount, Segment, Sn};
 
-/// An SDU of the window, and what became of its bytes. Its memory is fixed.
+/// An SDU of the window, and what became of its bytes.
+// No heap: its bytes stand in an array for the longest SDU, with their number beside it.
 #[derive(Clone, Copy)]
 pub(crate) struct Slot {
     /// Its bytes, the first `size` of these.
     bytes: [u8; MAX_SDU],
     size: usize,
-    /// Beside the bytes, not in pairs with them: PDUs copy bytes as slices.
+    /// Of each byte, beside the bytes and not in pairs with them: a PDU copies its bytes as a slice.
     marks: [Mark; MAX_SDU],
     /// How many bytes were sent. They are the first ones, since bytes are sent in their order.
     sent: usize,

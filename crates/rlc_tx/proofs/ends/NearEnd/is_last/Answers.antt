@@ -1,9 +1,8 @@
 use Rattle.std.proofs.Common.{◌≡◌, ℕ, ◌+◌, ◌-◌, Bool, true, false, cond, eqb, ltb, sym, refl, ap, ◌∙◌, subst, rules}
 use Rattle.protocol.specs.Sending.{Run, has, sent_run}
 use Rattle.rlc_tx.proofs.Found.{found_by}
-use Rattle.rlc_tx.proofs.Marked.{has_left}
 use Rattle.rlc_tx.proofs.OfEnd.{ordered}
-use Rattle.rlc_tx.proofs.OfSlot.{marked, long}
+use Rattle.rlc_tx.proofs.OfSlot.{slot_left}
 use Rattle.rlc_tx.proofs.Sends.{left_after}
 use Rattle.rlc_tx.proofs.Served.{nothing_after, some_mapped, not_not}
 use Rattle.rlc_tx.proofs.ends.NearEnd.is_last.Goals as goal
@@ -23,7 +22,7 @@ left_then slot run x front = go (eqb x run.count) refl
   where
     go : (b : Bool) → eqb x run.count ≡ b → ltb (cond b run.size 0) (slot.pending + (slot.size - slot.sent)) ≡ has left (cond b (sent_run run (sdu_of slot)) (sdu_of slot))
     go true e = sym (left_after slot run (front (eqb-true x run.count e)))
-    go false e = sym (has_left _ _ _ _ _ (marked slot) (sdu_of slot) (long slot) (λ i. refl))
+    go false e = sym (slot_left slot)
 
 pub returns : goal.returns
 returns c =

@@ -1,7 +1,7 @@
-use Rattle.std.proofs.Common.{◌+◌, ◌-◌, drop, false, refl, arith}
+use Rattle.std.proofs.Common.{◌+◌, ◌-◌, drop, false, arith}
 use Rattle.protocol.specs.Sending as near
-use Rattle.rlc_tx.proofs.Marked.{leading_take, pending_to}
-use Rattle.rlc_tx.proofs.OfSlot.{marked, long, run_is}
+use Rattle.rlc_tx.proofs.Marked.{leading_take}
+use Rattle.rlc_tx.proofs.OfSlot.{slot_pending_to, run_is}
 use Rattle.rlc_tx.proofs.slots.Slot.pending_run.Goals as goal
 use Rattle.rlc_tx.specs.Marks.{is_pending}
 use Rattle.rlc_tx.specs.Slots.{sdu_of}
@@ -20,5 +20,5 @@ returns c =
       c.min-most.ensures,
       c.room.ensures,
       c.first_pending-from.ensures.within,
-      pending_to _ _ _ _ _ (marked s) (sdu_of s) (long s) (λ i. refl) from (omega (arith, c.first_pending-from.ensures.within)),
+      slot_pending_to s from (omega (arith, c.first_pending-from.ensures.within)),
     ))
