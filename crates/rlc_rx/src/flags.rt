@@ -17,37 +17,8 @@ pub(crate) fn find_flag(flags: &[bool], flag: bool, from: usize, to: usize) -> u
     }
 }
 
-/// Writes `data` from byte `offset` on, where nothing is held.
-fn put_all(bytes: &mut [u8], held: &mut [bool], offset: usize, data: &[u8])
-    requires room { offset + length «data».now ≤ length bytes.old }
-    requires sizes { length held.old ≡ length bytes.old }
-    requires fresh { NoneFrom offset held.old }
-    ensures { Merged offset (length «data».now) «data».now bytes.old bytes.new held.old held.new (length «data».now) }
-{
-    let end = offset + data.len();
-    bytes[offset..end].copy_from_slice(data);
-    held[offset..end].fill(true);
-}
-
-/// Writes those bytes of `data` that are not held, from byte `offset` on, and answers how many.
-fn put_new(bytes: &mut [u8], held: &mut [bool], offset: usize, data: &[u8]) -> usize
-    requires room { offset + length «data».now ≤ length bytes.old }
-    requires sizes { length held.old ≡ length bytes.old }
-    ensures { Merged offset (length «data».now) «data».now bytes.old bytes.new held.old held.new result }
-{
-    let mut new = 0;
-    // No `zip` of two `iter_mut`: once such a loan is over, the check knows a slice's length and not its elements.
-    for (i, byte) in data.iter().enumerate() {
-        if !held[offset + i] {
-            bytes[offset + i] = *byte;
-            held[offset + i] = true;
-            new += 1;
-        }
-    }
-    new
-}
-
-/// Writes what is new of `data`, from byte `offset` on, and answers how much; nothing from byte `top` on is held.
+/// Writes those bytes of `data` that are not held, from byte `offset` on, and answers how many; nothing from byte `top`
+/// on is held.
 pub(crate) fn put(
     bytes: &mut [u8],
     held: &mut [bool],
@@ -60,10 +31,22 @@ pub(crate) fn put(
     requires beyond { NoneFrom top held.old }
     ensures { Merged offset (length «data».now) «data».now bytes.old bytes.new held.old held.new result }
 {
-    if top <= offset {
-        put_all(bytes, held, offset, data);
-        data.len()
-    } else {
-        put_new(bytes, held, offset, data)
+    // All that is held stands before the data.
+    let is_behind = top <= offset;
+    if is_behind {
+        let end = offset + data.len();
+        bytes[offset..end].copy_from_slice(data);
+        held[offset..end].fill(true);
+        return data.len();
     }
+    let mut new = 0;
+    // No `zip` of two `iter_mut`: once such a loan is over, the check knows a slice's length and not its elements.
+    for (i, byte) in data.iter().enumerate() {
+        if !held[offset + i] {
+            bytes[offset + i] = *byte;
+            held[offset + i] = true;
+            new += 1;
+        }
+    }
+    new
 }

@@ -1,5 +1,5 @@
 use Rattle.std.proofs.Common.{◌≤◌}
-use Rattle.rlc_rx.proofs.flags.put_new.Given as goal
+use Rattle.rlc_rx.proofs.flags.put.Given as goal
 use Rattle.rlc_rx.specs.Flags.{Merged}
 
 abbrev pub invariant-loop-i : goal.invariant-loop-i
