@@ -1,9 +1,13 @@
 -- Bytes that are read from digits, one by one.
-use Rattle.std.proofs.Common.{◌≡◌, ℕ, ◌+◌, ◌*◌, ◌<◌, List, [], ◌∷◌, ◌++◌, length, get_or, drop, sym, ◌∙◌, ap, subst, below_more, arith, rules, slice_index}
+use Rattle.std.proofs.Common.{◌≡◌, ℕ, ◌+◌, ◌*◌, ◌<◌, List, [], ◌∷◌, ◌++◌, length, get_or, drop, sym, ◌∙◌, ap, subst, below_more, length-append, length-drop, arith, rules, slice_index}
 use Rattle.std.proofs.lemmas.List.{length_push, get_or_push, get_or_append_left, get_or-drop}
-use Rattle.hex_digits.specs.Digits.{Byte, Spelt}
+use Rattle.hex_digits.specs.Digits.{Byte, Spelt, Stops}
 
--- the two digits that stand before the rest spell one byte more
+-- the two digits that stand before the rest
+pub digit_ahead : (digits pair rest : List ℕ) (n : ℕ) → drop n digits ≡ pair ++ rest → length pair ≡ 2 → (j : ℕ) → j < 2 → slice_index pair j ≡ slice_index digits (n + j)
+digit_ahead digits pair rest n ahead two j lt = sym (get_or_append_left pair rest 0 j (omega arith)) ∙ ap (λ ds. get_or ds j 0) (sym ahead) ∙ get_or-drop n digits j 0
+
+-- they spell one byte more
 pub spelt_push : (digits old pair rest : List ℕ) (byte : ℕ) → drop (2 * length old) digits ≡ pair ++ rest → length pair ≡ 2
     → Byte (slice_index pair 0) (slice_index pair 1) byte → Spelt digits old → Spelt digits (old ++ byte ∷ [])
 spelt_push digits old pair rest byte ahead two here spelt k inside =
@@ -12,7 +16,19 @@ spelt_push digits old pair rest byte ahead two here spelt k inside =
     last k (omega (arith, length_push old byte, inside))
   where
     digit : (j : ℕ) → j < 2 → slice_index pair j ≡ slice_index digits (2 * length old + j)
-    digit j lt = sym (get_or_append_left pair rest 0 j (omega arith)) ∙ ap (λ ds. get_or ds j 0) (sym ahead) ∙ get_or-drop (2 * length old) digits j 0
+    digit = digit_ahead digits pair rest (2 * length old) ahead two
 
     last : Byte (slice_index digits (2 * length old)) (slice_index digits (2 * length old + 1)) (slice_index (old ++ byte ∷ []) (length old))
     last = search (rules, digit 0, digit 1, here, get_or_push)
+
+-- or none
+pub stops_here : (digits old pair rest : List ℕ) → drop (2 * length old) digits ≡ pair ++ rest → length pair ≡ 2
+    → ((b : ℕ) → Byte (slice_index pair 0) (slice_index pair 1) b → ⊥) → Spelt digits old → Stops digits old
+stops_here digits old pair rest ahead two none spelt = (
+  spelt,
+  omega (arith, ap length ahead, length-append pair rest, two, length-drop (2 * length old) digits),
+  λ b is. none b (subst (λ d. Byte d (slice_index pair 1) b) (sym (digit 0 (omega arith) ∙ ap (slice_index digits) (omega arith))) (subst (λ d. Byte (slice_index digits (2 * length old)) d b) (sym (digit 1 (omega arith))) is)),
+)
+  where
+    digit : (j : ℕ) → j < 2 → slice_index pair j ≡ slice_index digits (2 * length old + j)
+    digit = digit_ahead digits pair rest (2 * length old) ahead two

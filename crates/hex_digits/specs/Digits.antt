@@ -14,6 +14,11 @@ Byte high low byte = (h : ℕ) × (l : ℕ) × Digit high h × Digit low l × (b
 abbrev pub Spelt : List ℕ → List ℕ → Type 0
 Spelt digits bytes = (k : ℕ) → k < length bytes → Byte (slice_index digits (2 * k)) (slice_index digits (2 * k + 1)) (slice_index bytes k)
 
+-- the two digits that follow those of the bytes spell none
+abbrev pub Stops : List ℕ → List ℕ → Type 0
+Stops digits bytes = Spelt digits bytes × (2 * length bytes + 1 < length digits)
+    × ((b : ℕ) → Byte (slice_index digits (2 * length bytes)) (slice_index digits (2 * length bytes + 1)) b → ⊥)
+
 -- the digit that is written for a value: 0 to 9, then a to f
 abbrev pub digit_of : ℕ → ℕ
 digit_of value = cond (nat_lt value 10) (48 + value) (87 + value)

@@ -2,8 +2,9 @@
 
 #![tactic(auto)]
 
-ghost use Rattle.std.specs.Prelude.{◌≡◌, ℕ, ◌*◌, ◌<◌, length, Some, IfSome, IfOk, vec_len, MatchOption};
-ghost use Rattle.hex_digits.specs.Digits.{Digit, Byte, Spelt, digits_of, text_of};
+ghost use Rattle.std.specs.Prelude.{◌≡◌, ℕ, ◌+◌, ◌*◌, ◌<◌, length, Some, IfSome, IfOk, IsErrOf, List, vec_len, MatchOption};
+ghost use Rattle.hex_digits.specs.Digits.{Digit, Byte, Spelt, Stops, digits_of, text_of};
+ghost use Rattle.hex_digits.specs.declared.BadHex.TheVariants.{NoMemory};
 ghost use Rattle.std.specs.Fmt.{WritesOnOk};
 
 use std::alloc::{AllocError, AllocFailed, Global};
@@ -18,12 +19,16 @@ pub enum BadHex {
 }
 
 impl From<AllocError> for BadHex {
+    ghost from_gives = { λ _ bad. bad ≡ NoMemory };
+
     fn from(_: AllocError) -> BadHex {
         BadHex::NoMemory
     }
 }
 
 impl<T: Drop> From<AllocFailed<T>> for BadHex {
+    ghost from_gives = { λ _ bad. bad ≡ NoMemory };
+
     fn from(_: AllocFailed<T>) -> BadHex {
         BadHex::NoMemory
     }
@@ -48,9 +53,11 @@ fn byte_of(high: u8, low: u8) -> Option<u8>
     u8::try_from(high * 16 + low).ok()
 }
 
-/// The bytes of a text of digits, two for each.
+/// The bytes of a text of digits, two for each. A bad digit among the pairs is found before an odd length.
 pub fn decode(heap: Global, digits: &[u8]) -> Result<Vec<u8>, BadHex>
-    ensures { IfOk result (λ v. (2 * vec_len v ≡ length digits.now) × Spelt digits.now v.items) }
+    ensures ok { IfOk result (λ v. (2 * vec_len v ≡ length digits.now) × Spelt digits.now v.items) }
+    ensures bad { IsErrOf result BadHex.BadDigit → (bytes : List ℕ) × Stops digits.now bytes }
+    ensures odd { IsErrOf result BadHex.OddDigits → (bytes : List ℕ) × (length digits.now ≡ 2 * length bytes + 1) × Spelt digits.now bytes }
 {
     let mut bytes = Vec::new(heap);
     for pair in digits.chunks_exact(2) {

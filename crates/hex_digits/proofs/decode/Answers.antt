@@ -1,6 +1,6 @@
-use Rattle.std.proofs.Common.{◌≡◌, ◌*◌, ◌++◌, drop, length, vec_len, slice_index, sym, ◌∙◌, ap, subst, arith, rules, length-append, length-drop}
+use Rattle.std.proofs.Common.{◌≡◌, ℕ, ◌*◌, ◌++◌, drop, length, vec_len, slice_index, sym, ◌∙◌, ap, subst, arith, rules, length-append, length-drop}
 use Rattle.std.proofs.lemmas.List.{drop-drop, drop_at}
-use Rattle.hex_digits.proofs.Spelling.{spelt_push}
+use Rattle.hex_digits.proofs.Spelling.{spelt_push, stops_here}
 use Rattle.hex_digits.proofs.decode.Goals as goal
 use Rattle.hex_digits.specs.Digits.{Byte, Spelt}
 
@@ -22,3 +22,14 @@ loop-pair-preserved c =
     subst (Spelt digits) (sym pushed.items)
     (spelt_push digits old.items pair rest c.in_ok-ok_or.field-0 (ap (λ n. drop (2 * n) digits) (sym old.ok.0) ∙ ahead) two byte c.loop-pair.invariant.3) in
     (size, rest_is, omega (arith, pushed.len, long, two, length-drop (2 * vec_len old) digits), more)
+
+pub returns-in_err-ok_or-clause-bad : goal.returns-in_err-ok_or-clause-bad
+returns-in_err-ok_or-clause-bad c = λ _.
+    let digits = c.args.digits.now in
+    let old = c.loop-pair.bytes in
+    let pair = c.in-Some.pair.now in
+    let rest = c.next.new.self.rest.now in
+    let none : (b : ℕ) → Byte (slice_index pair 0) (slice_index pair 1) b → ⊥ = search rules in
+    let two : length pair ≡ 2 = search rules in
+    let ahead : drop (2 * vec_len old) digits ≡ pair ++ rest = search rules in
+    (old.items, stops_here digits old.items pair rest (ap (λ n. drop (2 * n) digits) (sym old.ok.0) ∙ ahead) two none c.loop-pair.invariant.3)
