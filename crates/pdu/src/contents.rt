@@ -8,7 +8,7 @@ ghost use Rattle.protocol.specs.Reading.{decode};
 use crate::differences::Comparison;
 use crate::requests::Request;
 use std::alloc::{AllocError, Global};
-use wire::{Draft, Entry, Fault, Header, Part, Pdu, Reader, Sn, write_amd};
+use wire::{Amd, Draft, Entry, Fault, Header, Part, Reader, Sn, Status, write_amd};
 
 /// A PDU that was read.
 #[derive(Drop)]
@@ -60,9 +60,9 @@ impl<'a> Content<'a> {
             end: request.end,
             bytes: request.bytes.as_slice(),
         };
-        Ok(match reader.read()? {
-            Pdu::Amd { header, data } => Content::Amd { header, data },
-            Pdu::Status { ack_sn, entries } => Content::Status {
+        Ok(match Amd::try_from(reader.read()?) {
+            Ok(Amd { header, data }) => Content::Amd { header, data },
+            Err(Status { ack_sn, entries }) => Content::Status {
                 ack_sn,
                 entries: entries.collect(heap)?,
             },

@@ -15,11 +15,11 @@ ghost use Rattle.wire.specs.Counts.{sn_of, count_of};
 use crate::data_pdus::DataPdu;
 use crate::entries::SduEntries;
 use crate::receptions::{Completed, Reception};
-use crate::reporting::Reporting;
+use crate::reporting::{Event, Reporting};
 use crate::windows::Window;
 use protocol::PACKET_LIMIT;
 use timers::{Settings, Timer};
-use wire::{Draft, End, Fault, Grant, Pdu, Reader, Refusal, RlcCount};
+use wire::{Amd, Draft, End, Fault, Grant, Reader, Refusal, RlcCount};
 
 /// RLC's receiving side: it puts SDUs together from segments, and reports what is missing.
 #[derive(Drop)]
@@ -99,18 +99,17 @@ impl FarEnd {
     pub fn read(&mut self, bytes: &[u8]) -> Result<Reception, Fault>
         ensures { (answer_of self.new result, state_of self.new) ≡ reading bytes.now (state_of self.old) }
     {
-        let pdu = Reader {
+        let reader = Reader {
             end: End::Far,
             bytes,
-        }
-        .read()?;
-        match pdu {
-            Pdu::Amd { header, data } => self.receive(&DataPdu {
-                header,
-                payload: data.bytes,
-            }),
-            Pdu::Status { .. } => Err(Refusal::WrongKind.at(0)),
-        }
+        };
+        let Ok(pdu) = Amd::try_from(reader.read()?) else {
+            return Err(Refusal::WrongKind.at(0));
+        };
+        self.receive(&DataPdu {
+            header: pdu.header,
+            payload: pdu.data.bytes,
+        })
     }
 
     /// The bytes of an SDU that has become complete, until the next PDU is read.
@@ -176,7 +175,7 @@ impl FarEnd {
             return Ok(0);
         }
         let length = self.write_report(size, buffer)?;
-        self.reporting = Reporting::Barred;
+        self.reporting.on(Event::Grant);
         self.t_status_prohibit = Timer::start(Some(self.settings.t_status_prohibit));
         Ok(length)
     }
@@ -188,7 +187,7 @@ impl FarEnd {
     {
         self.window.pass_trigger();
         self.t_reassembly = Timer::Stopped;
-        self.reporting.trigger();
+        self.reporting.on(Event::Trigger);
         let low = self.window.rx_highest_status;
         self.await_from(low);
     }
@@ -205,7 +204,7 @@ impl FarEnd {
         ensures { state_of self.new ≡ state_after (λ _. tick_prohibit) (state_of self.old) }
     {
         if self.t_status_prohibit.tick() {
-            self.reporting.unbar();
+            self.reporting.on(Event::Timer);
         }
     }
 

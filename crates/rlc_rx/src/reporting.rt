@@ -1,8 +1,8 @@
 //! Whether a status report is wanted, and whether t-StatusProhibit bars it.
 
 ghost use Rattle.std.specs.Prelude.{◌≡◌};
-ghost use Rattle.protocol.specs.Receiving.{reports, triggered, triggered_if, unbarred};
-ghost use Rattle.rlc_rx.specs.Reports.{reporting_of};
+ghost use Rattle.protocol.specs.Receiving.{reports, triggered_if};
+ghost use Rattle.rlc_rx.specs.Reports.{reporting_of, event_taken};
 
 #[derive(Clone, Copy)]
 pub(crate) enum Reporting {
@@ -10,6 +10,17 @@ pub(crate) enum Reporting {
     Wanted,
     Barred,
     BarredWanted,
+}
+
+/// What changes it.
+#[derive(Clone, Copy)]
+pub(crate) enum Event {
+    /// A status report is asked for.
+    Trigger,
+    /// A grant was spent here.
+    Grant,
+    /// t-StatusProhibit has run out.
+    Timer,
 }
 
 impl Reporting {
@@ -20,13 +31,17 @@ impl Reporting {
         matches!(self, Reporting::Wanted)
     }
 
-    /// A status report is asked for.
-    pub(crate) fn trigger(&mut self)
-        ensures { reporting_of self.new ≡ triggered (reporting_of self.old) }
+    // A rule of the project: the machine matches its own state and the event together, and changes in place.
+    pub(crate) fn on(&mut self, event: Event)
+        ensures { reporting_of self.new ≡ event_taken event (reporting_of self.old) }
     {
-        *self = match *self {
-            Reporting::Quiet | Reporting::Wanted => Reporting::Wanted,
-            Reporting::Barred | Reporting::BarredWanted => Reporting::BarredWanted,
+        *self = match (*self, event) {
+            (Reporting::Quiet, Event::Trigger) => Reporting::Wanted,
+            (Reporting::Barred, Event::Trigger) => Reporting::BarredWanted,
+            (Reporting::Wanted, Event::Grant) => Reporting::Barred,
+            (Reporting::Barred, Event::Timer) => Reporting::Quiet,
+            (Reporting::BarredWanted, Event::Timer) => Reporting::Wanted,
+            (state, _) => state,
         };
     }
 
@@ -34,17 +49,7 @@ impl Reporting {
         ensures { reporting_of self.new ≡ triggered_if condition (reporting_of self.old) }
     {
         if condition {
-            self.trigger();
+            self.on(Event::Trigger);
         }
-    }
-
-    /// t-StatusProhibit has run out.
-    pub(crate) fn unbar(&mut self)
-        ensures { reporting_of self.new ≡ unbarred (reporting_of self.old) }
-    {
-        *self = match *self {
-            Reporting::Quiet | Reporting::Barred => Reporting::Quiet,
-            Reporting::Wanted | Reporting::BarredWanted => Reporting::Wanted,
-        };
     }
 }

@@ -19,7 +19,11 @@ impl Timer {
     pub fn start(setting: Option<u16>) -> Timer
         ensures { timer_of result ≡ started setting }
     {
-        setting.map_or(Timer::Endless, |left| Timer::Running { left })
+        // A rule of the project: an absent setting is taken apart where the timer starts.
+        match setting {
+            Some(left) => Timer::Running { left },
+            None => Timer::Endless,
+        }
     }
 
     pub fn is_running(self) -> bool

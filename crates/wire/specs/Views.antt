@@ -10,6 +10,8 @@ use Rattle.wire.specs.Counts.{sn_of}
 use Rattle.wire.specs.declared.entries.Found.{Found}
 use Rattle.wire.specs.declared.entries.Entries.{Entries}
 use Rattle.wire.specs.declared.pdus.Entry.{Entry}
+use Rattle.wire.specs.declared.pdus.Amd.{Amd}
+use Rattle.wire.specs.declared.pdus.Status.{Status}
 use Rattle.wire.specs.declared.pdus.Missing.{Missing}
 use Rattle.wire.specs.declared.pdus.Missing.TheVariants.{Every, Span}
 use Rattle.wire.specs.declared.pdus.Part.{Part}
@@ -90,8 +92,16 @@ segment_read (Ok segment) = Ok (segment_of segment)
 segment_read (Err fault) = Err fault
 
 abbrev pub pdu_of : Pdu → protocol.Pdu
-pdu_of (read.Amd header part) = protocol.amd (amd_of header part.bytes.now)
+pdu_of (read.Whole poll sn part) = protocol.amd (record { poll = poll; sn = sn_of sn; segment = protocol.whole; payload = part.bytes.now })
+pdu_of (read.First poll sn part) = protocol.amd (record { poll = poll; sn = sn_of sn; segment = protocol.first; payload = part.bytes.now })
+pdu_of (read.Middle poll sn so part) = protocol.amd (record { poll = poll; sn = sn_of sn; segment = protocol.middle so; payload = part.bytes.now })
+pdu_of (read.Last poll sn so part) = protocol.amd (record { poll = poll; sn = sn_of sn; segment = protocol.last so; payload = part.bytes.now })
 pdu_of (read.Status ack_sn entries) = protocol.status (sn_of ack_sn) (entries_of entries)
+
+-- the same PDU, of whatever kind
+abbrev pub amd_or_status : Result Amd Status → protocol.Pdu
+amd_or_status (Ok a) = protocol.amd (amd_of a.header a.data.bytes.now)
+amd_or_status (Err s) = protocol.status (sn_of s.ack_sn) (entries_of s.entries)
 
 abbrev pub read_of : Result Pdu Fault → Result protocol.Pdu Fault
 read_of (Ok pdu) = Ok (pdu_of pdu)
@@ -108,6 +118,9 @@ Begins bytes place part = (part.place ≡ place) × (part.bytes.now ≡ drop pla
 
 -- the data field of what was read stands behind the header
 abbrev pub Placed : Bytes → Result Pdu Fault → Type 0
-Placed bytes (Ok (read.Amd header part)) = Begins bytes (header_length header.segment) part
+Placed bytes (Ok (read.Whole poll sn part)) = Begins bytes 2 part
+Placed bytes (Ok (read.First poll sn part)) = Begins bytes 2 part
+Placed bytes (Ok (read.Middle poll sn so part)) = Begins bytes 4 part
+Placed bytes (Ok (read.Last poll sn so part)) = Begins bytes 4 part
 Placed bytes (Ok (read.Status ack_sn entries)) = Unit {0}
 Placed bytes (Err fault) = Unit {0}

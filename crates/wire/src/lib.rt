@@ -18,7 +18,7 @@ pub use drafts::{Closed, Draft, NotClosed};
 pub use entries::Entries;
 pub use grants::Grant;
 pub use numbers::Sn;
-pub use pdus::{Entry, Header, Missing, Part, Pdu, Segment};
+pub use pdus::{Amd, Entry, Header, Missing, Part, Pdu, Segment, Status};
 pub use protocol::{End, Fault, Layer, Refusal};
 pub use reading::Reader;
 pub use writing::write_amd;

@@ -46,10 +46,69 @@ pub struct Header {
 }
 
 /// A PDU that was read. The data field of an AMD PDU is a part of the bytes read.
+// A rule of the project: each kind of PDU is a case, which borrows the data field.
 #[derive(Drop)]
 pub enum Pdu<'a> {
-    Amd { header: Header, data: Part<'a> },
-    Status { ack_sn: Sn, entries: Entries<'a> },
+    Whole {
+        poll: bool,
+        sn: Sn,
+        data: Part<'a>,
+    },
+    First {
+        poll: bool,
+        sn: Sn,
+        data: Part<'a>,
+    },
+    Middle {
+        poll: bool,
+        sn: Sn,
+        so: u16,
+        data: Part<'a>,
+    },
+    Last {
+        poll: bool,
+        sn: Sn,
+        so: u16,
+        data: Part<'a>,
+    },
+    Status {
+        ack_sn: Sn,
+        entries: Entries<'a>,
+    },
+}
+
+/// An AMD PDU that was read, of whatever kind.
+#[derive(Drop)]
+pub struct Amd<'a> {
+    pub header: Header,
+    pub data: Part<'a>,
+}
+
+/// A status report that was read.
+#[derive(Drop)]
+pub struct Status<'a> {
+    pub ack_sn: Sn,
+    pub entries: Entries<'a>,
+}
+
+impl<'a> TryFrom<Pdu<'a>> for Amd<'a> {
+    ghost use Rattle.wire.specs.Views.{pdu_of, amd_or_status};
+
+    type Error = Status<'a>;
+
+    ghost try_from_gives = { λ pdu result. amd_or_status result ≡ pdu_of pdu };
+
+    fn try_from(pdu: Pdu<'a>) -> Result<Amd<'a>, Status<'a>> {
+        let (poll, sn, segment, data) = match pdu {
+            Pdu::Whole { poll, sn, data } => (poll, sn, Segment::Whole, data),
+            Pdu::First { poll, sn, data } => (poll, sn, Segment::First, data),
+            Pdu::Middle { poll, sn, so, data } => (poll, sn, Segment::Middle { so }, data),
+            Pdu::Last { poll, sn, so, data } => (poll, sn, Segment::Last { so }, data),
+            Pdu::Status { ack_sn, entries } => return Err(Status { ack_sn, entries }),
+        };
+        let header = Header { poll, sn, segment };
+        Ok(Amd { header, data })
+    }
 }
 
 impl Segment {

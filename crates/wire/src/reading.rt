@@ -7,7 +7,7 @@ ghost use Rattle.wire.specs.Views.{header_length, segment_in, segment_read, read
 use crate::bits::{has_bit, word};
 use crate::entries::{Entries, check_entries};
 use crate::numbers::Sn;
-use crate::pdus::{Header, Part, Pdu, Segment};
+use crate::pdus::{Part, Pdu, Segment};
 use protocol::{End, Fault, Refusal};
 
 /// The P bit of an AMD PDU's first byte.
@@ -53,13 +53,15 @@ fn read_amd<'a>(bytes: &'a [u8]) -> Result<Pdu<'a>, Fault>
     let place = segment.header_length();
     let part = &bytes[place..];
     segment.check_offset(part.len())?;
-    let header = Header {
-        poll: has_bit(bytes[0], POLL),
-        sn: Sn::new(word(bytes, 0)),
-        segment,
-    };
+    let poll = has_bit(bytes[0], POLL);
+    let sn = Sn::new(word(bytes, 0));
     let data = Part { bytes: part, place };
-    Ok(Pdu::Amd { header, data })
+    Ok(match segment {
+        Segment::Whole => Pdu::Whole { poll, sn, data },
+        Segment::First => Pdu::First { poll, sn, data },
+        Segment::Middle { so } => Pdu::Middle { poll, sn, so, data },
+        Segment::Last { so } => Pdu::Last { poll, sn, so, data },
+    })
 }
 
 /// A status report, whose D/C bit and CPT were looked at.

@@ -16,5 +16,5 @@ returns c =
     let p = timer_of e.t_status_prohibit in
     c.await_from.ensures.state
     ∙ ap (λ f. (s, f))
-    (ap (λ r. awaited s (count_of w.rx_highest_status) (far_with w stopped r p)) c.trigger.ensures
+    (ap (λ r. awaited s (count_of w.rx_highest_status) (far_with w stopped r p)) c.on.ensures
     ∙ given_up_is s e.window w (timer_of e.t_reassembly) (reporting_of e.reporting) p c.pass_trigger.ensures.state)
