@@ -146,7 +146,7 @@ impl Window {
     {
         let Completed { place, length } = *completed;
         let bytes = &self.slots[place].bytes;
-        &bytes[0..length]
+        &bytes[..length]
     }
 
     /// The first count from `from` on that is not complete.
