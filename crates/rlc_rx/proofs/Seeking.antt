@@ -74,6 +74,11 @@ seek_more test from x le = ⊎_elim found none (cases_lt (seek test (x - from) f
                 (λ d. both_ways _ (seek_before test (x - from) from (seek test (x + 1 - from) from) (seek_from test (x + 1 - from) from) (omega (arith, lt, d, ge))) hit)
                 (cases_eq (seek test (x + 1 - from) from) x)
 
+-- a number of steps from the first place, or the place behind the last
+abbrev pub ahead : (from to : ℕ) → Option ℕ → ℕ
+ahead from to (Some steps) = from + steps
+ahead from to None = to
+
 -- flags, searched by their places in a part ----------------------------------------------------------------------------------
 
 module _ (flag : Bool) (flags : List Bool) (from to : ℕ) (ordered : from ≤ to) (room : to ≤ length flags) where
@@ -91,14 +96,21 @@ module _ (flag : Bool) (flags : List Bool) (from to : ℕ) (ordered : from ≤ t
   others : (n : ℕ) → n ≤ to - from → AllWithin (λ f. beq f flag ≡ false) part 0 n → (k : ℕ) → from ≤ k → k < from + n → wears flag flags k ≡ false
   others n le none k lo hi = flag_at (k - from) k (omega (arith, lo, hi, le)) (omega (arith, lo)) ∙ none (k - from) false (omega arith) (omega (arith, lo, hi))
 
-  pub flag_found : (i : ℕ) → i < length part → HoldsAt (λ f. beq f flag ≡ true) part i → AllWithin (λ f. beq f flag ≡ false) part 0 i
+  flag_found : (i : ℕ) → i < length part → HoldsAt (λ f. beq f flag ≡ true) part i → AllWithin (λ f. beq f flag ≡ false) part 0 i
       → from + i ≡ seek (wears flag flags) (to - from) from
   flag_found i lt here before =
       sym
       (seek_first (wears flag flags) (to - from) from (from + i) (omega arith) (omega (arith, lt, part_long))
       (flag_at i (from + i) (omega (arith, lt, part_long)) refl ∙ here false) (others i (omega (arith, lt, part_long)) before))
 
-  pub flag_missing : AllWithin (λ f. beq f flag ≡ false) part 0 (length part) → to ≡ seek (wears flag flags) (to - from) from
+  flag_missing : AllWithin (λ f. beq f flag ≡ false) part 0 (length part) → to ≡ seek (wears flag flags) (to - from) from
   flag_missing none =
       omega
       (arith, ordered, seek_past (wears flag flags) (to - from) from (others (to - from) (omega arith) (subst (AllWithin (λ f. beq f flag ≡ false) part 0) part_long none)))
+
+  pub flag_sought : (r : Option ℕ)
+      → MatchOption r (AllWithin (λ f. beq f flag ≡ false) part 0 (length part))
+      (λ i. (i < length part) × HoldsAt (λ f. beq f flag ≡ true) part i × AllWithin (λ f. beq f flag ≡ false) part 0 i)
+      → ahead from to r ≡ seek (wears flag flags) (to - from) from
+  flag_sought (Some i) found = flag_found i found.0 found.1 found.2
+  flag_sought None none = flag_missing none

@@ -10,11 +10,10 @@ pub(crate) fn find_flag(flags: &[bool], flag: bool, from: usize, to: usize) -> u
     requires room { to ≤ length flags.now }
     ensures { result ≡ seek (wears flag flags.now) (to - from) from }
 {
-    // No `map_or`: its closure would need a `requires` of its own for the sum.
-    match flags[from..to].iter().position(|f| *f == flag) {
-        Some(steps) => from + steps,
-        None => to,
-    }
+    flags[from..to]
+        .iter()
+        .position(|f| *f == flag)
+        .map_or(to, |steps| from + steps)
 }
 
 /// Writes those bytes of `data` that are not held, from byte `offset` on, and answers how many; nothing from byte `top`

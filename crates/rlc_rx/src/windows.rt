@@ -133,6 +133,7 @@ impl Window {
         ensures { reception_in self.now result ≡ reception (stored self.now (count_of x)) }
     {
         let place = x.value() as usize % WINDOW_SIZE;
+        // No `map_or`: its closure would need a `requires` for what the type `Completed` keeps.
         match self.slots[place].complete_length() {
             Some(length) => Reception::HandedUp(Completed { place, length }),
             None => Reception::Kept,
@@ -145,7 +146,7 @@ impl Window {
     {
         let Completed { place, length } = *completed;
         let bytes = &self.slots[place].bytes;
-        &bytes[0..length]
+        &bytes[..length]
     }
 
     /// The first count from `from` on that is not complete.
