@@ -32,14 +32,6 @@ pub struct Queue {
     ghost older: { AllPairs Older (map waiting_of held.items) },
 }
 
-/// Writes `bytes` at the buffer's start.
-fn write(buffer: &mut [u8], bytes: &[u8])
-    requires { length bytes.now ≤ length buffer.old }
-    ensures { buffer.new ≡ put bytes.now buffer.old }
-{
-    buffer[0..bytes.len()].copy_from_slice(bytes);
-}
-
 impl Queue {
     ghost use Rattle.air.specs.Waits.{waits};
 
@@ -122,7 +114,7 @@ impl Queue {
         }
         let (pdu, _) = self.get(k)?;
         let length = pdu.len();
-        write(buffer, pdu);
+        buffer[..length].copy_from_slice(pdu);
         if !keeps {
             self.remove(k);
         }

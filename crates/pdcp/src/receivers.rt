@@ -64,6 +64,7 @@ impl Receiver {
         self.store.count_below(self.rx_deliv)
     }
 
+    // A packet stays a slice, whose bound three functions ask: a type with the bound would be taken apart in each.
     /// Refuses a COUNT out of range, discards one below RX_DELIV or stored, and takes any other packet.
     fn take_counted(&mut self, count: Option<PdcpCount>, packet: &[u8]) -> Result<(), Fault>
         requires collected { due (pdcp_of self.old) ≡ [] }

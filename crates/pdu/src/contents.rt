@@ -46,10 +46,7 @@ fn write_status(ack_sn: Sn, entries: &[Entry], buffer: &mut [u8]) -> Result<usiz
     for entry in entries {
         draft.add(*entry, buffer)?;
     }
-    match draft.close(ack_sn, buffer) {
-        Ok(closed) => Ok(closed.size()),
-        Err(refused) => Err(refused.fault),
-    }
+    Ok(draft.close(ack_sn, buffer)?.size())
 }
 
 impl<'a> Content<'a> {

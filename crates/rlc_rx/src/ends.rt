@@ -130,6 +130,7 @@ impl FarEnd {
     {
         let first = self.window.rx_next;
         let start = first.value();
+        // A chain could not both carry the room that is left and leave by `?`.
         let mut room = most;
         for x in start..self.window.rx_highest_status.value() {
             let slot = self.window.slot(x);

@@ -8,8 +8,8 @@ use Rattle.protocol.specs.declared.faults.Fault.{Fault}
 use Rattle.protocol.specs.declared.faults.Refusal.TheVariants.{InvalidEntry}
 use Rattle.std.proofs.lemmas.Bool.{cond-false, ltb-false}
 use Rattle.std.specs.Bool.{then_some}
-use Rattle.std.specs.Option.{option_or}
-use Rattle.wire.specs.Views.{Raw, found_at}
+use Rattle.std.specs.Option.{option_or, option_map}
+use Rattle.wire.specs.Views.{Raw, entries_in, found_at}
 
 abbrev raw_at : Bytes → Raw
 raw_at bytes = record { entry = entry_of bytes; size = entry_length bytes; e1 = e1_of bytes; e3 = e3_of bytes }
@@ -81,3 +81,9 @@ walked_on ack_sn e1 bytes size rest invalid raw w e =
       valid = w.valid ∙ looked_at ack_sn (size - length rest) rest invalid raw e
           ∙ ap (λ n. first_of (noted invalid (not raw.e3 && valid_entry ack_sn raw.entry) (size - length rest)) (along (valid_entries ack_sn) raw.e1 n (drop raw.size rest))) next;
     }
+
+-- the entries of a part in which one begins or not
+pub listed_if : {A : Type 0} (bytes_of : A → Bytes) (more : Bool) (part : A)
+    → entries_in (option_map bytes_of (then_some more part)) ≡ along listing more 3 (bytes_of part)
+listed_if bytes_of true part = refl
+listed_if bytes_of false part = refl

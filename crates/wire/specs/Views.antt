@@ -1,11 +1,12 @@
 -- What the types of this crate stand for.
-use Rattle.std.specs.Prelude.{◌≡◌, ℕ, Bool, cond, List, [], length, drop, Some, None, Ok, Err, Option, Result, nat_le, nat_lt}
+use Rattle.std.specs.Prelude.{◌≡◌, ℕ, true, Bool, cond, List, [], length, drop, Some, None, Ok, Err, Option, Result, nat_le, nat_lt}
 use Rattle.protocol.specs.Pdus as protocol
 use Rattle.protocol.specs.Bytes.{Bytes, word}
 use Rattle.protocol.specs.Reading as reading
 use Rattle.protocol.specs.Refusals.{at, unless}
 use Rattle.protocol.specs.declared.faults.Fault.{Fault}
 use Rattle.protocol.specs.declared.faults.Refusal.TheVariants.{Malformed}
+use Rattle.std.specs.Option.{option_map}
 use Rattle.wire.specs.Counts.{sn_of}
 use Rattle.wire.specs.declared.entries.Found.{Found}
 use Rattle.wire.specs.declared.entries.Entries.{Entries}
@@ -50,9 +51,14 @@ checked_entries ack_sn e1 bytes =
     unless (reading.along reading.whole_entries e1 3 bytes)
     (unless (reading.along (reading.valid_entries ack_sn) e1 3 bytes) (Ok tt))
 
+-- the entries that begin in these bytes, if there are any
+abbrev pub entries_in : Option Bytes → List protocol.Entry
+entries_in None = []
+entries_in (Some bytes) = reading.along reading.listing true 3 bytes
+
 -- the entries that are to come
 abbrev pub entries_of : Entries → List protocol.Entry
-entries_of c = reading.along reading.listing c.more 3 c.rest.now
+entries_of c = entries_in (option_map (λ rest. rest.now) c.rest)
 
 abbrev pub segment_of : Segment → protocol.Segment
 segment_of Whole = protocol.whole

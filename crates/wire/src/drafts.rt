@@ -43,6 +43,14 @@ pub struct NotClosed {
     pub draft: Draft,
 }
 
+impl From<NotClosed> for Fault {
+    ghost from_gives = { λ refused fault. fault ≡ refused.fault };
+
+    fn from(refused: NotClosed) -> Fault {
+        refused.fault
+    }
+}
+
 impl Closed {
     /// The report's length: it is the first `size` bytes of the buffer that it was closed in.
     pub fn size(&self) -> usize
@@ -104,6 +112,7 @@ fn check_status(bytes: &[u8]) -> Result<(), Fault>
     ensures { result ≡ checked (decode Near bytes.now) }
 {
     let end = End::Near;
+    // Neither `?` nor `map`: the borrow checker does not cover letting a PDU go there.
     match (Reader { end, bytes }).read() {
         Ok(_) => Ok(()),
         Err(fault) => Err(fault),
@@ -153,18 +162,10 @@ impl Draft {
             });
         }
         if size == 3 {
-            self.close_empty(ack_sn, buffer)
-        } else {
-            self.close_entries(ack_sn, buffer)
+            put_header(buffer, ack_sn, false);
+            return Ok(Closed { size });
         }
-    }
-
-    fn close_empty(self, ack_sn: Sn, buffer: &mut [u8]) -> Result<Closed, NotClosed>
-        requires { (self.size ≡ 3) × (3 ≤ length buffer.old) }
-        ensures { closing (draft_of self) result buffer.new ≡ close (sn_of ack_sn) (draft_of self) buffer.old }
-    {
-        put_header(buffer, ack_sn, false);
-        Ok(Closed { size: 3 })
+        self.close_entries(ack_sn, buffer)
     }
 
     fn close_entries(self, ack_sn: Sn, buffer: &mut [u8]) -> Result<Closed, NotClosed>

@@ -97,6 +97,7 @@ pub(crate) fn check_entries(bytes: &[u8], ack_sn: Sn, e1: bool) -> Result<(), Fa
     let mut rest = &bytes[3..];
     let mut more = e1;
     let mut invalid = None;
+    // Not over `Entries`: a cut entry, at which those end, is a fault here.
     while more {
         let place = size - rest.len();
         let Some(found) = find_entry(rest) else {
@@ -115,19 +116,14 @@ pub(crate) fn check_entries(bytes: &[u8], ack_sn: Sn, e1: bool) -> Result<(), Fa
     if !rest.is_empty() {
         return Err(Refusal::Malformed.at(size - rest.len()));
     }
-    match invalid {
-        Some(place) => Err(Refusal::InvalidEntry.at(place)),
-        None => Ok(()),
-    }
+    invalid.map_or(Ok(()), |place| Err(Refusal::InvalidEntry.at(place)))
 }
 
 /// The entries of a status report that are to come.
 #[derive(Drop)]
 pub struct Entries<'a> {
-    /// What is left of the PDU.
-    pub(crate) rest: &'a [u8],
-    /// Whether an entry begins there.
-    pub(crate) more: bool,
+    /// What is left of the PDU, if an entry begins there.
+    pub(crate) rest: Option<&'a [u8]>,
 }
 
 impl Iterator for Entries<'_> {
@@ -140,17 +136,14 @@ impl Iterator for Entries<'_> {
     ghost remaining = { item_count entries_of };
 
     fn next(&mut self) -> Option<Entry> {
-        if !self.more {
-            return None;
-        }
+        let rest = self.rest?;
         let Found {
             entry,
             size,
             e1,
             e3: _,
-        } = find_entry(self.rest)?;
-        self.rest = &self.rest[size..];
-        self.more = e1;
+        } = find_entry(rest)?;
+        self.rest = e1.then_some(&rest[size..]);
         Some(entry)
     }
 }

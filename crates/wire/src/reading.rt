@@ -76,10 +76,10 @@ fn read_status<'a>(bytes: &'a [u8]) -> Result<Pdu<'a>, Fault>
     let ack_sn = Sn::new(word(bytes, 0));
     let more = has_bit(bytes[2], E1);
     check_entries(bytes, ack_sn, more)?;
-    let rest = &bytes[3..];
+    let rest = more.then_some(&bytes[3..]);
     Ok(Pdu::Status {
         ack_sn,
-        entries: Entries { rest, more },
+        entries: Entries { rest },
     })
 }
 
