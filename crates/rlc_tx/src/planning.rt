@@ -37,9 +37,11 @@ impl NearEnd {
         ensures { result ≡ unless_reached self.now.settings.poll_pdu (counted self.now.settings.poll_pdu new self.now.polling.pdu_without_poll) }
     {
         let without = self.polling.pdu_without_poll;
-        self.settings
-            .poll_pdu
-            .map_or(Some(without), |limit| count_below(limit, without, new))
+        // A rule of the project: an absent pollPDU is taken apart where the limit is tested.
+        match self.settings.poll_pdu {
+            Some(limit) => count_below(limit, without, new),
+            None => Some(without),
+        }
     }
 
     /// Whether nothing is to be sent once this run was.

@@ -107,6 +107,7 @@ impl Window {
     fn acknowledge_all(&mut self, ack: RlcCount, touches: &[Touch; WINDOW_SIZE])
         ensures { bare self.new ≡ with_sdus (bare self.old) (settled_to (count_of self.old.tx_next_ack) (count_of self.old.tx_next) (count_of ack) touches.now (sdus_in self.old)) }
     {
+        // Over counts: an iterator over the slots would hold the window that each turn changes.
         for k in 0..self.len() {
             let count = self.count(k);
             self.acknowledge_one(count, ack, touches[place(count)]);
