@@ -10,13 +10,10 @@ ghost use Rattle.timers.specs.Views.{settings_of, timer_of};
 ghost use Rattle.wire.specs.Counts.{count_of};
 
 use crate::headers::read_data;
-use crate::stores::Store;
-use protocol::{Fault, MAX_SDU, PACKET_LIMIT, Refusal, WINDOW_SIZE};
+use crate::stores::{Store, WINDOW};
+use protocol::{Fault, MAX_SDU, PACKET_LIMIT, Refusal};
 use timers::{Settings, Timer};
 use wire::PdcpCount;
-
-/// How many COUNTs from RX_DELIV on are accepted.
-const WINDOW: u32 = WINDOW_SIZE as u32;
 
 /// PDCP at the far end.
 #[derive(Drop)]

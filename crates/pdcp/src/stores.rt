@@ -12,8 +12,8 @@ use crate::places::Place;
 use protocol::WINDOW_SIZE;
 use wire::PdcpCount;
 
-/// The number of places, as steps between COUNTs.
-const WINDOW: u32 = WINDOW_SIZE as u32;
+/// The number of places, and of the COUNTs from RX_DELIV on that are accepted.
+pub(crate) const WINDOW: u32 = WINDOW_SIZE as u32;
 
 /// Packets by COUNT. The place of a COUNT is its remainder: stored COUNTs are less than 16 apart.
 #[derive(Drop)]

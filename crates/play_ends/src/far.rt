@@ -2,12 +2,12 @@
 
 use crate::failures::Failure;
 use crate::scripts::Command;
-use crate::shown::Sent;
+use crate::shown::show_spent;
 use hex_digits::Hex;
 use pdcp::Receiver;
 use rlc_rx::{FarEnd, Reception};
 use timers::Settings;
-use wire::{Grant, Refusal};
+use wire::Refusal;
 
 #[derive(Drop)]
 pub(crate) struct FarSide {
@@ -21,14 +21,6 @@ impl FarSide {
             end: FarEnd::new(settings),
             pdcp: Receiver::new(settings),
         }
-    }
-
-    fn spend(&mut self, rt: &impl Print, size: usize) -> Result<(), Failure> {
-        let mut buffer = [0; 512];
-        let grant = Grant::open(size)?;
-        let length = self.end.spend(grant, &mut buffer)?.min(buffer.len());
-        println!(rt; "  {}", Sent(&buffer[..length]))?;
-        Ok(())
     }
 
     fn read(&mut self, rt: &impl Print, bytes: &[u8]) -> Result<(), Failure> {
@@ -61,7 +53,9 @@ impl FarSide {
     /// Carries a command out, and prints its answer.
     pub(crate) fn obey(&mut self, rt: &impl Print, command: Command) -> Result<(), Failure> {
         match command {
-            Command::Spend(size) => self.spend(rt, size),
+            Command::Spend(size) => {
+                show_spent(rt, size, |grant, buffer| self.end.spend(grant, buffer))
+            },
             Command::Read(bytes) => self.read(rt, bytes.as_slice()),
             Command::Collect => self.collect(rt),
             Command::Tick => {

@@ -2,10 +2,9 @@
 
 use crate::failures::Failure;
 use crate::scripts::Command;
-use crate::shown::Sent;
+use crate::shown::show_spent;
 use rlc_tx::{NearEnd, Report};
 use timers::Settings;
-use wire::Grant;
 
 #[derive(Drop)]
 pub(crate) struct NearSide {
@@ -19,14 +18,6 @@ impl NearSide {
         }
     }
 
-    fn spend(&mut self, rt: &impl Print, size: usize) -> Result<(), Failure> {
-        let mut buffer = [0; 512];
-        let grant = Grant::open(size)?;
-        let length = self.end.spend(grant, &mut buffer)?.min(buffer.len());
-        println!(rt; "  {}", Sent(&buffer[..length]))?;
-        Ok(())
-    }
-
     /// Carries a command out, and prints its answer.
     pub(crate) fn obey(&mut self, rt: &impl Print, command: Command) -> Result<(), Failure> {
         match command {
@@ -34,7 +25,9 @@ impl NearSide {
                 let count = self.end.give(packet.as_slice())?;
                 println!(rt; "  COUNT {}", count.value())?;
             }
-            Command::Spend(size) => self.spend(rt, size)?,
+            Command::Spend(size) => {
+                show_spent(rt, size, |grant, buffer| self.end.spend(grant, buffer))?;
+            }
             Command::Read(bytes) => match self.end.read(bytes.as_slice())? {
                 Report::Stale => println!(rt; "  stale")?,
                 Report::Taken => println!(rt; "  taken")?,
