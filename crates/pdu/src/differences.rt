@@ -25,6 +25,7 @@ fn differences(heap: Global, written: &[u8], read: &[u8]) -> Result<Vec<Differen
     requires { length written.now ≡ length read.now }
     ensures { IfOk result (λ v. All (Real written.now read.now) v.items) }
 {
+    // As one chain with `filter` the search for the proof breaks off at its limit.
     let mut list = Vec::new(heap);
     for (place, (ours, theirs)) in written.iter().zip(read).enumerate() {
         let bits = *ours ^ *theirs;

@@ -22,10 +22,7 @@ impl<'a> DataPdu<'a> {
     pub(crate) fn offset(&self) -> usize
         ensures { result ≡ first_byte (data_pdu_of self.now).segment }
     {
-        match self.header.segment {
-            Segment::Whole | Segment::First => 0,
-            Segment::Middle { so } | Segment::Last { so } => usize::from(so),
-        }
+        self.header.segment.so().map_or(0, usize::from)
     }
 
     /// One past the place of the last data byte.
@@ -46,9 +43,10 @@ impl<'a> DataPdu<'a> {
     pub(crate) fn so_place(&self) -> usize
         ensures { result ≡ so_place (data_pdu_of self.now).segment }
     {
-        match self.header.segment {
-            Segment::Whole | Segment::First => 0,
-            Segment::Middle { .. } | Segment::Last { .. } => 2,
+        if self.header.segment.so().is_some() {
+            2
+        } else {
+            0
         }
     }
 }

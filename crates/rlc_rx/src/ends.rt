@@ -130,7 +130,7 @@ impl FarEnd {
     {
         let first = self.window.rx_next;
         let start = first.value();
-        // A chain could not both carry the room that is left and leave by `?`.
+        // Two ways out, an answer before the last SDU and a fault: a loop says them more plainly than `try_fold`.
         let mut room = most;
         for x in start..self.window.rx_highest_status.value() {
             let slot = self.window.slot(x);

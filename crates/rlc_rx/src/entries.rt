@@ -69,10 +69,7 @@ impl<'a> SduEntries<'a> {
     {
         let mut length = 0;
         for entry in self {
-            length += match entry.missing {
-                Missing::Every => 2,
-                Missing::Span { .. } => 6,
-            };
+            length += entry.size();
         }
         length
     }

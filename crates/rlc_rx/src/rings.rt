@@ -12,8 +12,8 @@ use crate::data_pdus::DataPdu;
 use crate::slots::Slot;
 use protocol::WINDOW_SIZE;
 
-// Two numbers and no range: the clauses speak of both, and of their order all the same. The loops go over counts
-// and not over slots, since these wrap round the ring.
+// The loops go over counts and not over slots, since these wrap round the ring. Here and below a function takes two
+// numbers and no range, because the definition that it is equal to takes a number and a width.
 
 /// Makes room for the counts from `from` to before `to`.
 pub(crate) fn clear(slots: &mut [Slot; WINDOW_SIZE], from: u32, to: u32)

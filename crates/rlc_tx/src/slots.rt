@@ -15,7 +15,7 @@ use std::ops::Range;
 use wire::{Missing, RlcCount, Segment, Sn};
 
 /// An SDU of the window, and what became of its bytes.
-// No heap: its bytes stand in an array for the longest SDU, with their number beside it.
+// A rule of the project: an SDU's bytes are an array that starts as zeros, with their number beside it.
 #[derive(Clone, Copy)]
 pub(crate) struct Slot {
     /// Its bytes, the first `size` of these.
@@ -102,11 +102,11 @@ impl Slot {
         requires { length packet.now ≤ 500 }
         ensures { sdu_of result ≡ unsent_sdu (encode_pdcp (sn_of sn) packet.now) }
     {
-        let number = sn.value();
+        let [high, low] = sn.value().to_be_bytes();
         let size = 2 + packet.len();
         let mut bytes = [0; MAX_SDU];
-        bytes[0] = 128 + (number / 256) as u8;
-        bytes[1] = (number % 256) as u8;
+        bytes[0] = 128 + high;
+        bytes[1] = low;
         bytes[2..size].copy_from_slice(packet);
         Slot::unsent(bytes, size)
     }

@@ -85,7 +85,7 @@ impl Window {
         requires { F.IsAlwaysCallable wanted }
         ensures { IsFirst (GivesAt F.Fn wanted self.now) self.now (option_map count_of result) }
     {
-        // A chain's `find` would have to be shown that each count it tests lies in the window: its goals stay open.
+        // A chain's `find` leaves open that each count that it tests lies in the window, which `slot` asks.
         for k in 0..self.len() {
             let count = self.count(k);
             if wanted(count, self.slot(count)) {
@@ -108,7 +108,7 @@ impl Window {
         ensures { option_map count_of result ≡ highest_sent (bare self.now) }
     {
         let begun = self.top().value() - self.tx_next_ack.value();
-        // As in `first`, a chain leaves open that each count lies in the window.
+        // As in `first`, a chain leaves open that each count that it tests lies in the window.
         for k in (0..begun).rev() {
             let count = self.count(k);
             if !self.slot(count).is_acknowledged() {

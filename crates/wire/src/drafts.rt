@@ -60,16 +60,6 @@ impl Closed {
     }
 }
 
-/// How many bytes an entry has.
-fn entry_length(entry: Entry) -> usize
-    ensures { result ≡ length (encode_entry true (entry_of entry)) }
-{
-    match entry.missing {
-        Missing::Every => 2,
-        Missing::Span { .. } => 6,
-    }
-}
-
 /// Writes an entry from byte `place` on, with E1 set.
 fn put_entry(buffer: &mut [u8], place: usize, entry: Entry)
     requires { place + length (encode_entry true (entry_of entry)) ≤ length buffer.old }
@@ -94,7 +84,7 @@ fn put_header(buffer: &mut [u8], ack_sn: Sn, more: bool)
     ensures { buffer.new ≡ headed (sn_of ack_sn) more buffer.old }
 {
     let [high, low] = ack_sn.value().to_be_bytes();
-    let e1 = if more { 128 } else { 0 };
+    let e1 = 128 * u8::from(more);
     put_bytes(buffer, 0, &[high, low, e1]);
 }
 
@@ -133,7 +123,7 @@ impl Draft {
     pub fn add(&mut self, entry: Entry, buffer: &mut [u8]) -> Result<(), Fault>
         ensures { added result (draft_of self.new) buffer.new ≡ add (entry_of entry) (draft_of self.old) buffer.old }
     {
-        let length = entry_length(entry);
+        let length = entry.size();
         let place = self.size;
         let room = buffer.len();
         if room < place || room - place < length {

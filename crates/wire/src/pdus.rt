@@ -1,7 +1,8 @@
 //! What a PDU says.
 
-ghost use Rattle.std.specs.Prelude.{◌≡◌};
-ghost use Rattle.wire.specs.Views.{segment_of, so_of, header_length};
+ghost use Rattle.std.specs.Prelude.{◌≡◌, true, length};
+ghost use Rattle.protocol.specs.Pdus.{encode_entry};
+ghost use Rattle.wire.specs.Views.{entry_of, so_of, header_length};
 
 use crate::entries::Entries;
 use crate::numbers::Sn;
@@ -111,9 +112,21 @@ impl<'a> TryFrom<Pdu<'a>> for Amd<'a> {
     }
 }
 
+impl Entry {
+    /// How many bytes it has in a status report.
+    pub fn size(self) -> usize
+        ensures { result ≡ length (encode_entry true (entry_of self)) }
+    {
+        match self.missing {
+            Missing::Every => 2,
+            Missing::Span { .. } => 6,
+        }
+    }
+}
+
 impl Segment {
     /// SO, which a middle and a last segment have.
-    pub(crate) fn so(self) -> Option<u16>
+    pub fn so(self) -> Option<u16>
         ensures { result ≡ so_of self }
     {
         match self {
