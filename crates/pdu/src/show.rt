@@ -10,6 +10,7 @@ use wire::Fault;
 const SHOWN: usize = 16;
 
 /// Bytes in hexadecimal, of many the first ones and their number.
+// Not `hex_digits::Hex`, which prints all of them, and in lower case.
 #[derive(Drop)]
 struct Hex<'a>(&'a [u8]);
 

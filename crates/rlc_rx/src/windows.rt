@@ -26,7 +26,7 @@ pub(crate) struct Window {
     pub(crate) rx_highest_status: RlcCount,
     /// RX_Next_Highest as t-Reassembly was started.
     rx_next_status_trigger: RlcCount,
-    /// The SDU of each count in the window, at the count modulo 16.
+    /// The SDU of each count in the window, at the count modulo 16: memory is fixed.
     slots: [Slot; WINDOW_SIZE],
     ghost places: { length slots ≡ 16 },
     ghost status_from: { count_of rx_next ≤ count_of rx_highest_status },

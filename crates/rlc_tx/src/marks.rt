@@ -25,6 +25,7 @@ pub(crate) fn replace(marks: &mut [Mark], old: Mark, new: Mark) -> usize
     ensures after { marks.new ≡ map (replaced old new) marks.old }
     ensures changed { result ≡ count_by (same old) marks.old }
 {
+    // One walk counts and changes; a chain would walk the marks twice.
     let mut changed = 0;
     for mark in marks.iter_mut() {
         if *mark == old {

@@ -30,6 +30,7 @@ enum Touch {
 
 impl Touch {
     /// Named, by an entry with which RETX_COUNT has changed or not.
+    // By a flag: with this choice in its caller, the proof there falls into two.
     fn named(counted: bool) -> Touch
         ensures { result ≡ counted_if counted }
     {

@@ -195,6 +195,7 @@ impl Slot {
         }
     }
 
+    // That a run leads the bytes of its kind is a fact about both, and so asked by name.
     /// Which segment of it a run is.
     pub(crate) fn segment(&self, run: Run) -> Segment
         requires { Leads (run_of run) (sdu_of self.now) }

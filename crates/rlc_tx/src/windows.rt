@@ -26,7 +26,7 @@ pub(crate) fn place(count: RlcCount) -> usize
 pub(crate) struct Window {
     pub(crate) tx_next_ack: RlcCount,
     pub(crate) tx_next: RlcCount,
-    /// Each at its count modulo 16.
+    /// Each at its count modulo 16: memory is fixed.
     slots: [Slot; WINDOW_SIZE],
     ghost ordered: { count_of tx_next_ack ≤ count_of tx_next },
     ghost bounded: { count_of tx_next ≤ count_of tx_next_ack + 16 },
@@ -72,6 +72,7 @@ impl Window {
         self.tx_next_ack.saturating_plus(k)
     }
 
+    // That the window holds a count is a fact about two values, and so no invariant of either: it is asked by name.
     /// The slot of a count.
     pub(crate) fn slot(&self, count: RlcCount) -> &Slot
         requires { Holds self.now (count_of count) }

@@ -44,6 +44,8 @@ fn find_segment(bytes: &[u8]) -> Result<Segment, Fault>
     })
 }
 
+// Where the data stands is a fact about what was read and the bytes it was read from: each reader says it by name.
+
 /// An AMD PDU, whose D/C bit was looked at.
 fn read_amd<'a>(bytes: &'a [u8]) -> Result<Pdu<'a>, Fault>
     ensures value { read_of result ≡ read_amd bytes.now }
