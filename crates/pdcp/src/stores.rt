@@ -54,10 +54,10 @@ impl Store {
     }
 
     /// Whether a packet is stored under this COUNT.
-    pub(crate) fn contains(&self, count: PdcpCount) -> bool
-        ensures { result ≡ is_stored (stored_of self.now) (count_of count) }
+    pub(crate) fn contains(&self, count: u32) -> bool
+        ensures { result ≡ is_stored (stored_of self.now) count }
     {
-        self.reaches(count.value()) && self.is_full(count.value())
+        self.reaches(count) && self.is_full(count)
     }
 
     /// Gives this COUNT a place. Only COUNTs of which none is stored lose theirs.
