@@ -3,3 +3,4 @@ pub mod Windows
 pub mod Orders
 pub mod Rising
 pub mod Takings
+pub mod Seeking

@@ -1,11 +1,11 @@
 -- Packets in the order of COUNT, and the search for the next COUNT that is not stored.
-use Rattle.std.proofs.Common.{◌≡◌, ℕ, suc, ◌+◌, ◌-◌, ◌<◌, ◌≤◌, Bool, true, false, cond, not, eqb, ltb, List, [], ◌∷◌, sym, refl, ap, ◌∙◌, ⊎_elim, arith}
+use Rattle.std.proofs.Common.{◌≡◌, ℕ, ◌+◌, ◌-◌, ◌<◌, ◌≤◌, Bool, true, false, cond, not, eqb, ltb, List, [], ◌∷◌, sym, refl, ◌∙◌, ⊎_elim, arith}
 use Rattle.pdcp.specs.Stores.{Below}
 use Rattle.protocol.proofs.PdcpKept.{insert_stored}
 use Rattle.protocol.proofs.Seeks.{seek_from, seek_to}
 use Rattle.protocol.specs.Reordering.{Stored, is_stored, insert, due_of}
 use Rattle.protocol.specs.Searching.{seek}
-use Rattle.std.proofs.lemmas.Bool.{both_ways, cond-true, cond-false, eqb-true, ltb-false, or_cases, not_from_true, not_from_false}
+use Rattle.std.proofs.lemmas.Bool.{both_ways, eqb-true, ltb-false, or_cases}
 
 -- the COUNTs rise, from `low` on
 abbrev pub Ascending : ℕ → List Stored → Type 0
@@ -38,24 +38,8 @@ pub below_insert : (high : ℕ) (new : Stored) (ss : List Stored) → Below high
 below_insert high new ss below h k e =
     ⊎_elim (λ is. omega (arith, h, eqb-true new.count k is)) (below k) (or_cases (eqb new.count k) (is_stored ss k) (sym (insert_stored new ss k) ∙ e))
 
--- the next COUNT that is not stored, one step further, and where it is found
+-- the next COUNT that is not stored
 module _ (ss : List Stored) (end next : ℕ) where
-  pub missing_on : next < end → is_stored ss next ≡ true
-      → seek (λ c. not (is_stored ss c)) (end - (next + 1)) (next + 1) ≡ seek (λ c. not (is_stored ss c)) (end - next) next
-  missing_on h e =
-      let size : end - next ≡ suc (end - (next + 1)) = omega (arith, h) in
-      let on : suc next ≡ next + 1 = omega arith in
-      sym (ap (λ n. seek (λ c. not (is_stored ss c)) n next) size ∙ cond-false _ _ _ (not_from_true _ e)
-      ∙ ap (seek (λ c. not (is_stored ss c)) (end - (next + 1))) on)
-
   pub missing_within : next ≤ end → (next ≤ seek (λ c. not (is_stored ss c)) (end - next) next) × (seek (λ c. not (is_stored ss c)) (end - next) next ≤ end)
   missing_within h =
       (seek_from (λ c. not (is_stored ss c)) (end - next) next, omega (arith, h, seek_to (λ c. not (is_stored ss c)) (end - next) next))
-
-  pub missing_end : end ≤ next → seek (λ c. not (is_stored ss c)) (end - next) next ≡ next
-  missing_end h = let size : end - next ≡ 0 = omega (arith, h) in ap (λ n. seek (λ c. not (is_stored ss c)) n next) size
-
-  pub missing_here : next < end → is_stored ss next ≡ false → seek (λ c. not (is_stored ss c)) (end - next) next ≡ next
-  missing_here h e =
-      let size : end - next ≡ suc (end - (next + 1)) = omega (arith, h) in
-      ap (λ n. seek (λ c. not (is_stored ss c)) n next) size ∙ cond-true _ _ _ (not_from_false _ e)

@@ -1,7 +1,7 @@
 -- A ring of places as a function of COUNTs, and the window that it shows.
 use Rattle.std.proofs.Common.{◌≡◌, ℕ, ◌+◌, ◌-◌, ◌*◌, ◌%◌, ◌<◌, ◌≤◌, Bool, true, false, cond, ◌&&◌, eqb, ltb, leb, find, count_by, List, [], ◌++◌, map, length, get_or, set, is_some, Some, None, Option, sym, refl, ap, ◌∙◌, ⊎_elim, arith}
 use Rattle.pdcp.proofs.Listings.{stored_found, listed_same, listed_none, listed_split, found_outside, found_at, listed_insert, listed_without, lowest_listed, due_listed}
-use Rattle.pdcp.specs.Places.{has_place, packet_in, no_place, under, listed, copied_out}
+use Rattle.pdcp.specs.Places.{has_place, packet_in, under, listed, copied_out}
 use Rattle.pdcp.specs.Stores.{held_in, Near, found, taken, taken_if, without, lowest_of}
 use Rattle.pdcp.specs.declared.places.Place.{Place}
 use Rattle.protocol.proofs.Rings.{ring_update}
@@ -13,8 +13,8 @@ use Rattle.std.proofs.lemmas.List.{append-nil, length-map, map-set, get_or-map}
 use Rattle.std.proofs.lemmas.Bool.{both_ways, cases_lt, eqb-true, leb-true, leb-false, ltb-true, ltb-false, and_parts, and_cases}
 
 -- what stands under a COUNT is what its place holds
-pub under_is : (places : List Place) (c : ℕ) → length places ≡ 16 → under places c ≡ packet_in (get_or places (c % 16) no_place)
-under_is places c sized = get_or-map packet_in places (c % 16) no_place None (omega (arith, sized))
+pub under_is : (places : List Place) (c : ℕ) (past : Place) → length places ≡ 16 → under places c ≡ packet_in (get_or places (c % 16) past)
+under_is places c past sized = get_or-map packet_in places (c % 16) past None (omega (arith, sized))
 
 -- a place changed is a function changed at one COUNT of the window
 pub under-set : (places : List Place) (first c : ℕ) (place : Place) → length places ≡ 16 → first ≤ c → c < first + 16
@@ -161,3 +161,10 @@ pub due_held : (places : List Place) (first deliv : ℕ)
     → count_by (λ c. ltb c deliv && is_some (under places c)) (range_with_len first 16) ≡ length (due_of deliv (held_in places first))
 unfolding held_in
 due_held places first deliv = due_listed (under places) deliv 16 first
+
+-- a ring of empty places holds nothing
+pub none_held : (places : List Place) (past : Place) → length places ≡ 16 → ((i : ℕ) → i < 16 → packet_in (get_or places i past) ≡ None)
+    → held_in places 0 ≡ []
+unfolding held_in
+none_held places past sized empty =
+    listed_none (under places) 16 0 (λ k lo hi. under_is places k past sized ∙ empty (k % 16) (omega arith))

@@ -1,5 +1,5 @@
 -- What a place holds, and the list of what a ring of places holds.
-use Rattle.std.specs.Prelude.{◌≡◌, ℕ, zero, suc, ◌+◌, ◌<◌, ◌≤◌, Bool, cond, ◌&&◌, List, [], ◌∷◌, map, length, take, Some, None, Option, nat_le, nat_lt, slice_index_or}
+use Rattle.std.specs.Prelude.{ℕ, zero, suc, ◌+◌, Bool, cond, ◌&&◌, List, [], ◌∷◌, map, length, Some, None, Option, nat_le, nat_lt}
 use Rattle.pdcp.specs.declared.places.Place.{Place}
 use Rattle.protocol.specs.Bytes.{Bytes, put}
 use Rattle.protocol.specs.Reordering.{Stored}
@@ -9,35 +9,13 @@ use Rattle.std.specs.Option.{option_map}
 
 -- the packet in a place, if any
 abbrev pub packet_in : Place → Option Bytes
-packet_in place = option_map (λ n. take n place.bytes) place.length
-
-abbrev pub size_of : Option ℕ → ℕ
-size_of None = 0
-size_of (Some n) = n
-
--- a place has 500 bytes, and what it holds is in them
-abbrev pub Wide : Place → Type 0
-Wide place = length place.bytes ≡ 500
-
-abbrev pub Inside : Place → Type 0
-Inside place = size_of place.length ≤ 500
-
-abbrev pub Room : Place → Type 0
-Room place = Wide place × Inside place
+packet_in place = option_map (λ p. p.items) place.packet
 
 -- What taking a packet out answers, leaves in the buffer and leaves in the place. It stays if the buffer is too short.
 abbrev pub copied_out : Option Bytes → Bytes → Option ℕ × Bytes × Option Bytes
 copied_out None buffer = (None, buffer, None)
 copied_out (Some packet) buffer =
     cond (nat_lt (length buffer) (length packet)) (None, buffer, Some packet) (Some (length packet), put packet buffer, None)
-
--- what a list has past its end
-abbrev pub no_place : Place
-no_place = record { bytes = []; length = None }
-
--- so is every place of a ring
-abbrev pub Each : (Place → Type 0) → List Place → Type 0
-Each P places = (i : ℕ) → i < window_size → P (slice_index_or places i no_place)
 
 -- whether a COUNT has a place in the window that begins at `first`
 abbrev pub has_place : ℕ → ℕ → Bool

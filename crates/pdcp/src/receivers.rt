@@ -72,7 +72,7 @@ impl Receiver {
         if count.value() >= self.rx_deliv.value() + WINDOW || count.value() >= PACKET_LIMIT {
             return Err(Refusal::CountRange.at(0));
         }
-        if count < self.rx_deliv || self.store.contains(count) {
+        if count < self.rx_deliv || self.store.contains(count.value()) {
             return Ok(());
         }
         self.accept(count, packet);
@@ -120,12 +120,11 @@ impl Receiver {
         requires { count_of from ≤ count_of self.now.rx_next }
         ensures { count_of result ≡ unstored_from (pdcp_of self.now) (count_of from) }
     {
-        // A chain would search steps from `from` on, and add them to it again.
-        let mut next = from;
-        while next < self.rx_next && self.store.contains(next) {
-            next = next.saturating_plus(1);
-        }
-        next
+        let end = self.rx_next.value();
+        let missing = (from.value()..end)
+            .find(|&count| !self.store.contains(count))
+            .unwrap_or(end);
+        PdcpCount::first().saturating_plus(missing)
     }
 
     /// t-Reordering starts if it does not run and a COUNT below RX_NEXT is missing.

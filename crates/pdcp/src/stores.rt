@@ -1,7 +1,7 @@
 //! The packets that are stored, in fixed memory, each operation by the list of what is stored.
 
 ghost use Rattle.std.specs.Prelude.{◌≡◌, ◌+◌, ◌<◌, ◌≤◌, false, [], length, is_some, find, count_by, nat_lt, ◌&&◌};
-ghost use Rattle.pdcp.specs.Places.{Each, Wide, Inside, has_place, under};
+ghost use Rattle.pdcp.specs.Places.{has_place, under};
 ghost use Rattle.protocol.specs.Reordering.{is_stored, insert, due_of};
 ghost use Rattle.protocol.specs.Sending.{packet_limit, window_size};
 ghost use Rattle.std.specs.List.{range_with_len};
@@ -22,8 +22,6 @@ pub(crate) struct Store {
     /// The lowest COUNT that has a place.
     first: u32,
     ghost sized: { length places ≡ window_size },
-    ghost wide: { Each Wide places },
-    ghost inside: { Each Inside places },
     ghost low: { first ≤ packet_limit },
 }
 
@@ -34,7 +32,7 @@ impl Store {
         ensures { stored_of result ≡ [] }
     {
         Store {
-            places: [Place::empty(); WINDOW_SIZE],
+            places: Default::default(),
             first: 0,
         }
     }
@@ -54,10 +52,10 @@ impl Store {
     }
 
     /// Whether a packet is stored under this COUNT.
-    pub(crate) fn contains(&self, count: PdcpCount) -> bool
-        ensures { result ≡ is_stored (stored_of self.now) (count_of count) }
+    pub(crate) fn contains(&self, count: u32) -> bool
+        ensures { result ≡ is_stored (stored_of self.now) count }
     {
-        self.reaches(count.value()) && self.is_full(count.value())
+        self.reaches(count) && self.is_full(count)
     }
 
     /// Gives this COUNT a place. Only COUNTs of which none is stored lose theirs.

@@ -1,29 +1,25 @@
-use Rattle.std.proofs.Common.{◌≡◌, ◌+◌, ◌<◌, true, false, sym, ap, ◌∙◌, arith}
-use Rattle.pdcp.proofs.Orders.{missing_on, missing_here}
+use Rattle.std.proofs.Common.{◌≡◌, ℕ, ◌-◌, Bool, true, false, not, ap, ◌∙◌, arith, rules, tests}
+use Rattle.pdcp.proofs.Orders.{missing_within}
+use Rattle.pdcp.proofs.Seeking.{seek_range_first}
 use Rattle.pdcp.proofs.receivers.Receiver.next_missing.Goals as goal
 use Rattle.pdcp.specs.Stores.{stored_of}
-use Rattle.pdcp.specs.Views.{pdcp_of}
-use Rattle.protocol.specs.Reordering.{is_stored, unstored_from}
-use Rattle.std.proofs.lemmas.Bool.{ltb-true}
-use Rattle.wire.proofs.Orders.{count_lt}
+use Rattle.protocol.specs.Reordering.{is_stored}
+use Rattle.protocol.specs.Searching.{seek}
+use Rattle.std.proofs.lemmas.Iterator.{first_from_Range}
+use Rattle.wire.specs.Counts.{count_of}
 
-pub loop-next-preserved : goal.loop-next-preserved
-loop-next-preserved c =
+pub returns : goal.returns
+returns c =
     let r = c.args.self.now in
-    let n = c.loop-next.next.value in
-    let end = r.rx_next.value in
-    let lt : n < end = ltb-true n end (sym (c.lt.ensures ∙ count_lt n end) ∙ c.loop-next-test.true) in
-    let next : c.saturating_plus-next.result.value ≡ n + 1 = omega (arith, c.saturating_plus-next.ensures, r.limited, lt) in
-    let is : is_stored (stored_of r.store) n ≡ true = sym {b = is_stored (stored_of r.store) n} c.if-contains.ensures in (
-      omega (arith, lt, next),
-      ap (unstored_from (pdcp_of r)) next ∙ missing_on (stored_of r.store) end n lt is ∙ c.loop-next.invariant.1,
-    )
-
-pub returns-else-contains : goal.returns-else-contains
-returns-else-contains c =
-    let r = c.args.self.now in
-    let n = c.loop-next.next.value in
-    let end = r.rx_next.value in
-    let lt : n < end = ltb-true n end (sym (c.lt.ensures ∙ count_lt n end) ∙ c.loop-next-test.true) in
-    let not_there : is_stored (stored_of r.store) n ≡ false = sym {b = is_stored (stored_of r.store) n} c.if-contains.ensures in
-    sym (missing_here (stored_of r.store) end n lt not_there) ∙ c.loop-next.invariant.1
+    let from = count_of c.args.from in
+    let end = count_of r.rx_next in
+    let test : ℕ → Bool = λ x. not (is_stored (stored_of r.store) x) in
+    let high : c.value-end.result ≡ end = c.value-end.ensures in
+    let low : c.value.result ≡ from = c.value.ensures in
+    let found = c.unwrap_or-missing.ensures
+    ∙ seek_range_first test c.value.result c.value-end.result c.find.result (omega (arith, high, low, c.requires))
+    (first_from_Range _ _ _ _ (λ i. test i ≡ true) (λ i. test i ≡ false) c.find.ensures.ran (λ x q k. search (rules, tests)) (λ x q k. (search rules, search (rules, tests))))
+    ∙ ap (λ z. seek test (z - c.value.result) c.value.result) high
+    ∙ ap (λ z. seek test (end - z) z) low in
+    let bounds = missing_within (stored_of r.store) end from c.requires in
+    omega (arith, c.saturating_plus.ensures, c.first.ensures, found, bounds.1, r.limited)

@@ -22,5 +22,5 @@ returns c =
     let within = and_parts _ _ reached in
     held_taken s.places s.first n s.sized (subst (λ m. s.first ≤ m) same (leb-true _ _ within.0)) (subst (λ m. m < s.first + 16) same (ltb-true _ _ within.1))
     c.copy_out.new.self c.copy_out.result c.args.buffer.now c.copy_out.new.buffer
-    (c.copy_out.ensures.value ∙ ap (λ o. copied_out o c.args.buffer.now) (sym (under_is s.places n s.sized)))
+    (c.copy_out.ensures ∙ ap (λ o. copied_out o c.args.buffer.now) (sym (under_is s.places n _ s.sized)))
     ∙ ap (λ m. taken m c.args.buffer.now (stored_of s)) c.value-2.ensures
