@@ -9,12 +9,16 @@ ghost use Rattle.std.specs.Fmt.{WritesOnOk};
 
 use std::alloc::{AllocError, AllocFailed, Global};
 use std::fmt;
+use thiserror::Error;
 
 /// Why digits give no bytes.
-#[derive(Clone, Copy, Debug, PartialEq, Eq)]
+#[derive(Clone, Copy, Debug, PartialEq, Eq, Error)]
 pub enum BadHex {
+    #[error("odd number of hex digits")]
     OddDigits,
+    #[error("a character that is no hex digit")]
     BadDigit,
+    #[error("no memory")]
     NoMemory,
 }
 
@@ -31,16 +35,6 @@ impl<T: Drop> From<AllocFailed<T>> for BadHex {
 
     fn from(_: AllocFailed<T>) -> BadHex {
         BadHex::NoMemory
-    }
-}
-
-impl fmt::Display for BadHex {
-    fn fmt<W: fmt::Write>(&self, f: &mut fmt::Formatter<W>) -> fmt::Result {
-        f.write_str(match self {
-            BadHex::OddDigits => "odd number of hex digits",
-            BadHex::BadDigit => "a character that is no hex digit",
-            BadHex::NoMemory => "no memory",
-        })
     }
 }
 

@@ -2,6 +2,7 @@
 
 use hex_digits::{BadHex, decode};
 use std::alloc::Global;
+use thiserror::Error;
 use wire::End;
 
 /// What a line asks for: the bytes of a PDU, and the end that is to read them.
@@ -12,18 +13,16 @@ pub(crate) struct Request {
 }
 
 /// Why a line is not answered.
-#[derive(Drop)]
+#[derive(Debug, Drop, Error)]
 pub(crate) enum BadLine {
+    #[error("unknown end, neither near nor far")]
     UnknownEnd,
+    #[error("no bytes after the end")]
     NoBytes,
+    #[error("more than two words")]
     MoreWords,
-    Digits(BadHex),
-}
-
-impl From<BadHex> for BadLine {
-    fn from(bad: BadHex) -> BadLine {
-        BadLine::Digits(bad)
-    }
+    #[error(transparent)]
+    Digits(#[from] BadHex),
 }
 
 impl Request {

@@ -2,7 +2,7 @@
 
 use crate::contents::{Content, Failure};
 use crate::differences::{Comparison, Difference};
-use crate::requests::{BadLine, Request};
+use crate::requests::Request;
 use std::fmt;
 use wire::Fault;
 
@@ -38,17 +38,7 @@ impl fmt::Display for Request {
     }
 }
 
-impl fmt::Display for BadLine {
-    fn fmt<W: fmt::Write>(&self, f: &mut fmt::Formatter<W>) -> fmt::Result {
-        match self {
-            BadLine::UnknownEnd => f.write_str("unknown end, neither near nor far"),
-            BadLine::NoBytes => f.write_str("no bytes after the end"),
-            BadLine::MoreWords => f.write_str("more than two words"),
-            BadLine::Digits(bad) => write!(f, "{bad}"),
-        }
-    }
-}
-
+// By hand: thiserror asks for `Debug`, and a Fault of protocol has none.
 impl fmt::Display for Failure {
     fn fmt<W: fmt::Write>(&self, f: &mut fmt::Formatter<W>) -> fmt::Result {
         let fault = match self {

@@ -2,9 +2,8 @@
 
 use hex_digits::{BadHex, decode};
 use std::alloc::Global;
-use std::error::Error;
-use std::fmt;
 use std::str::FromStr;
+use thiserror::Error;
 
 /// The kinds of air that a script names.
 #[derive(Clone, Copy, Debug, PartialEq, Eq)]
@@ -22,32 +21,23 @@ pub(crate) enum Command {
 }
 
 /// Why a line is no command.
-#[derive(Clone, Copy, Debug, PartialEq, Eq)]
+#[derive(Clone, Copy, Debug, PartialEq, Eq, Error)]
 pub(crate) enum BadLine {
+    #[error("too many words")]
     MoreWords,
+    #[error("a line is air KIND MASK, put BYTES, skip or take DRAW")]
     UnknownVerb,
+    #[error("an air is pipe or pool")]
     UnknownKind,
+    #[error("the mask has 1 to 16 hexadecimal digits")]
     BadMask,
+    #[error("put takes bytes, two hexadecimal digits each")]
     BadBytes,
+    #[error("take takes a draw, 0 to 65535")]
     BadDraw,
+    #[error("no memory")]
     NoMemory,
 }
-
-impl fmt::Display for BadLine {
-    fn fmt<W: fmt::Write>(&self, f: &mut fmt::Formatter<W>) -> fmt::Result {
-        f.write_str(match self {
-            BadLine::MoreWords => "too many words",
-            BadLine::UnknownVerb => "a line is air KIND MASK, put BYTES, skip or take DRAW",
-            BadLine::UnknownKind => "an air is pipe or pool",
-            BadLine::BadMask => "the mask has 1 to 16 hexadecimal digits",
-            BadLine::BadBytes => "put takes bytes, two hexadecimal digits each",
-            BadLine::BadDraw => "take takes a draw, 0 to 65535",
-            BadLine::NoMemory => "no memory",
-        })
-    }
-}
-
-impl Error for BadLine {}
 
 impl From<BadHex> for BadLine {
     fn from(bad: BadHex) -> BadLine {

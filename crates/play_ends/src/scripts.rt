@@ -2,7 +2,8 @@
 
 use hex_digits::{BadHex, decode};
 use std::alloc::Global;
-use std::fmt;
+use std::str::FromStr;
+use thiserror::Error;
 use timers::Settings;
 
 #[derive(Drop)]
@@ -17,29 +18,22 @@ pub(crate) enum Command {
 }
 
 /// Why a line is no command.
-#[derive(Clone, Copy)]
+#[derive(Clone, Copy, Debug, Error)]
 pub(crate) enum BadLine {
+    #[error("a line is near, far, give, grant, read, tick or collect")]
     UnknownVerb,
+    #[error("near takes pollPDU, maxRetx and t-PollRetransmit")]
     NearSettings,
+    #[error("far takes t-Reassembly, t-StatusProhibit and t-Reordering")]
     FarSettings,
+    #[error("a setting is a number, or - if it may be absent")]
     BadSetting,
+    #[error("pollPDU is at most 255")]
     LargePollPdu,
+    #[error("grant takes a size")]
     BadSize,
+    #[error("bytes have two hexadecimal digits each")]
     BadBytes,
-}
-
-impl fmt::Display for BadLine {
-    fn fmt<W: fmt::Write>(&self, f: &mut fmt::Formatter<W>) -> fmt::Result {
-        f.write_str(match self {
-            BadLine::UnknownVerb => "a line is near, far, give, grant, read, tick or collect",
-            BadLine::NearSettings => "near takes pollPDU, maxRetx and t-PollRetransmit",
-            BadLine::FarSettings => "far takes t-Reassembly, t-StatusProhibit and t-Reordering",
-            BadLine::BadSetting => "a setting is a number, or - if it may be absent",
-            BadLine::LargePollPdu => "pollPDU is at most 255",
-            BadLine::BadSize => "grant takes a size",
-            BadLine::BadBytes => "bytes have two hexadecimal digits each",
-        })
-    }
 }
 
 impl From<BadHex> for BadLine {
@@ -58,39 +52,61 @@ pub(crate) const DEFAULTS: Settings = Settings {
     t_reordering: None,
 };
 
-/// A number that may be absent.
-fn optional(word: &str) -> Result<Option<u16>, BadLine> {
+/// The number that a word gives; this fault if there is no word or it is no number.
+fn number<N: FromStr>(word: Option<&str>, fault: BadLine) -> Result<N, BadLine>
+where
+    N::Err: Drop,
+{
+    word.and_then(|word| word.parse().ok()).ok_or(fault)
+}
+
+/// A setting that may be absent.
+fn optional(word: Option<&str>) -> Result<Option<u16>, BadLine> {
     match word {
-        "-" => Ok(None),
-        _ => word.parse().map(Some).map_err(|_| BadLine::BadSetting),
+        Some("-") => Ok(None),
+        _ => number(word, BadLine::BadSetting).map(Some),
     }
 }
 
 /// The same of at most 255.
-fn small(number: Option<u16>) -> Result<Option<u8>, BadLine> {
-    let Some(number) = number else {
-        return Ok(None);
-    };
-    u8::try_from(number)
-        .map(Some)
+fn small(word: Option<&str>) -> Result<Option<u8>, BadLine> {
+    optional(word)?
+        .map(u8::try_from)
+        .transpose()
         .map_err(|_| BadLine::LargePollPdu)
 }
 
+/// The bytes of a word of digits; none without a word.
+fn bytes(heap: Global, digits: Option<&str>) -> Result<Vec<u8>, BadHex> {
+    match digits {
+        Some(digits) => decode(heap, digits.as_bytes()),
+        None => Ok(Vec::new(heap)),
+    }
+}
+
 impl Command {
-    fn near(poll_pdu: &str, max_retx: &str, timer: &str) -> Result<Command, BadLine> {
+    fn near(
+        poll_pdu: Option<&str>,
+        max_retx: Option<&str>,
+        timer: Option<&str>,
+    ) -> Result<Command, BadLine> {
         Ok(Command::Near(Settings {
-            poll_pdu: small(optional(poll_pdu)?)?,
-            max_retx: max_retx.parse().map_err(|_| BadLine::NearSettings)?,
-            t_poll_retransmit: timer.parse().map_err(|_| BadLine::NearSettings)?,
+            poll_pdu: small(poll_pdu)?,
+            max_retx: number(max_retx, BadLine::NearSettings)?,
+            t_poll_retransmit: number(timer, BadLine::NearSettings)?,
             ..DEFAULTS
         }))
     }
 
-    fn far(reassembly: &str, prohibit: &str, reordering: &str) -> Result<Command, BadLine> {
+    fn far(
+        reassembly: Option<&str>,
+        prohibit: Option<&str>,
+        reordering: Option<&str>,
+    ) -> Result<Command, BadLine> {
         Ok(Command::Far(Settings {
             t_reordering: optional(reordering)?,
-            t_reassembly: reassembly.parse().map_err(|_| BadLine::FarSettings)?,
-            t_status_prohibit: prohibit.parse().map_err(|_| BadLine::FarSettings)?,
+            t_reassembly: number(reassembly, BadLine::FarSettings)?,
+            t_status_prohibit: number(prohibit, BadLine::FarSettings)?,
             ..DEFAULTS
         }))
     }
@@ -98,21 +114,16 @@ impl Command {
     /// The command of a line.
     pub(crate) fn parse(heap: Global, line: &str) -> Result<Command, BadLine> {
         let mut words = line.split_whitespace();
-        let verb = words.next().unwrap_or("");
-        let first = words.next().unwrap_or("");
-        let second = words.next().unwrap_or("");
-        let third = words.next().unwrap_or("");
-        match (verb, first, second) {
-            ("near", _, _) => Command::near(first, second, third),
-            ("far", _, _) => Command::far(first, second, third),
-            ("give", _, "") => Ok(Command::Give(decode(heap, first.as_bytes())?)),
-            ("grant", _, "") => first
-                .parse()
-                .map(Command::Spend)
-                .map_err(|_| BadLine::BadSize),
-            ("read", _, "") => Ok(Command::Read(decode(heap, first.as_bytes())?)),
-            ("tick", "", _) => Ok(Command::Tick),
-            ("collect", "", _) => Ok(Command::Collect),
+        match (words.next(), words.next(), words.next(), words.next()) {
+            (Some("near"), poll_pdu, max_retx, timer) => Command::near(poll_pdu, max_retx, timer),
+            (Some("far"), reassembly, prohibit, reordering) => {
+                Command::far(reassembly, prohibit, reordering)
+            }
+            (Some("give"), digits, None, _) => Ok(Command::Give(bytes(heap, digits)?)),
+            (Some("grant"), size, None, _) => number(size, BadLine::BadSize).map(Command::Spend),
+            (Some("read"), digits, None, _) => Ok(Command::Read(bytes(heap, digits)?)),
+            (Some("tick"), None, _, _) => Ok(Command::Tick),
+            (Some("collect"), None, _, _) => Ok(Command::Collect),
             _ => Err(BadLine::UnknownVerb),
         }
     }
