@@ -33,13 +33,12 @@ abbrev pub after : (Settings → Pdcp → Pdcp) → State → State
 after rule state = (state.0, rule state.0 state.1)
 
 -- A packet that is not discarded, at a time when none is due: its COUNT is one of the next 16, and not stored.
-pub record Awaited (count : ℕ) (packet : Bytes) (p : Pdcp) : Type 0 where
+pub record Awaited (count : ℕ) (p : Pdcp) : Type 0 where
   pub collected : due p ≡ []
   pub new : is_stored p.store count ≡ false
   pub from : p.rx_deliv ≤ count
   pub to : count < p.rx_deliv + window_size
   pub limit : count < packet_limit
-  pub short : length packet ≤ 500
 
 -- Bytes longer than the longest SDU are none.
 abbrev pub sdu_in : Bytes → Bytes

@@ -1,23 +1,25 @@
 //! The memory of one packet.
 
-ghost use Rattle.std.specs.Prelude.{◌≡◌, ◌≤◌, length, is_some, Some, None};
+ghost use Rattle.std.specs.Prelude.{◌≡◌, is_some, Some, None};
 ghost use Rattle.pdcp.specs.Places.{packet_in, copied_out};
 
 use arrayvec::ArrayVec;
 use protocol::MAX_PACKET;
 
+/// The bytes of a packet, never more than 500.
+pub(crate) type Packet = ArrayVec<u8, MAX_PACKET>;
+
 /// Room for one packet.
 #[derive(Default, Drop)]
 pub(crate) struct Place {
-    packet: Option<ArrayVec<u8, MAX_PACKET>>,
+    packet: Option<Packet>,
 }
 
 impl Place {
-    pub(crate) fn fill(&mut self, packet: &[u8])
-        requires { length packet.now ≤ 500 }
-        ensures { packet_in self.new ≡ Some packet.now }
+    pub(crate) fn fill(&mut self, packet: Packet)
+        ensures { packet_in self.new ≡ Some packet.items }
     {
-        self.packet = Some(ArrayVec::try_from(packet).unwrap());
+        self.packet = Some(packet);
     }
 
     /// Whether the place holds a packet.

@@ -10,6 +10,7 @@ ghost use Rattle.timers.specs.Views.{settings_of, timer_of};
 ghost use Rattle.wire.specs.Counts.{count_of};
 
 use crate::headers::read_data;
+use crate::places::Packet;
 use crate::stores::{Store, WINDOW};
 use protocol::{Fault, MAX_SDU, PACKET_LIMIT, Refusal};
 use timers::{Settings, Timer};
@@ -61,12 +62,10 @@ impl Receiver {
         self.store.count_below(self.rx_deliv)
     }
 
-    // A packet stays a slice, whose bound three functions ask: a type with the bound would be taken apart in each.
     /// Refuses a COUNT out of range, discards one below RX_DELIV or stored, and takes any other packet.
-    fn take_counted(&mut self, count: Option<PdcpCount>, packet: &[u8]) -> Result<(), Fault>
-        requires collected { due (pdcp_of self.old) ≡ [] }
-        requires short { length packet.now ≤ 500 }
-        ensures { (result, state_of self.new) ≡ answered (counted (settings_of self.old.settings) (option_map count_of count) packet.now (pdcp_of self.old)) (state_of self.old) }
+    fn take_counted(&mut self, count: Option<PdcpCount>, packet: Packet) -> Result<(), Fault>
+        requires { due (pdcp_of self.old) ≡ [] }
+        ensures { (result, state_of self.new) ≡ answered (counted (settings_of self.old.settings) (option_map count_of count) packet.items (pdcp_of self.old)) (state_of self.old) }
     {
         let count = count.ok_or(Refusal::CountRange.at(0))?;
         if count.value() >= self.rx_deliv.value() + WINDOW || count.value() >= PACKET_LIMIT {
@@ -91,7 +90,8 @@ impl Receiver {
         }
         let pdu = read_data(sdu)?;
         let count = pdu.sn.pdcp_count(self.rx_deliv);
-        self.take_counted(count, pdu.packet.bytes)
+        let packet = Packet::try_from(pdu.packet.bytes).unwrap();
+        self.take_counted(count, packet)
     }
 
     /// One Tick: when t-Reordering runs out, the COUNTs below RX_REORD that are missing are given up.
@@ -149,9 +149,9 @@ impl Receiver {
     }
 
     /// Stores a packet; RX_NEXT moves past it.
-    fn keep(&mut self, count: PdcpCount, packet: &[u8])
-        requires { Awaited (count_of count) packet.now (pdcp_of self.old) }
-        ensures { state_of self.new ≡ after (λ _. storing (count_of count) packet.now) (state_of self.old) }
+    fn keep(&mut self, count: PdcpCount, packet: Packet)
+        requires { Awaited (count_of count) (pdcp_of self.old) }
+        ensures { state_of self.new ≡ after (λ _. storing (count_of count) packet.items) (state_of self.old) }
     {
         self.store.insert(count, packet);
         if self.rx_next <= count {
@@ -160,9 +160,9 @@ impl Receiver {
     }
 
     /// Takes a packet that is not discarded.
-    fn accept(&mut self, count: PdcpCount, packet: &[u8])
-        requires { Awaited (count_of count) packet.now (pdcp_of self.old) }
-        ensures { state_of self.new ≡ after (λ s. accepted s (count_of count) packet.now) (state_of self.old) }
+    fn accept(&mut self, count: PdcpCount, packet: Packet)
+        requires { Awaited (count_of count) (pdcp_of self.old) }
+        ensures { state_of self.new ≡ after (λ s. accepted s (count_of count) packet.items) (state_of self.old) }
     {
         self.keep(count, packet);
         let deliv = if count == self.rx_deliv {

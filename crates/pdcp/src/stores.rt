@@ -8,7 +8,7 @@ ghost use Rattle.std.specs.List.{range_with_len};
 ghost use Rattle.std.specs.Option.{option_map};
 ghost use Rattle.wire.specs.Counts.{count_of};
 
-use crate::places::Place;
+use crate::places::{Packet, Place};
 use protocol::WINDOW_SIZE;
 use wire::PdcpCount;
 
@@ -73,12 +73,11 @@ impl Store {
     }
 
     /// Stores a packet under a COUNT that is less than 16 away from every stored one.
-    pub(crate) fn insert(&mut self, count: PdcpCount, packet: &[u8])
+    pub(crate) fn insert(&mut self, count: PdcpCount, packet: Packet)
         requires new { is_stored (stored_of self.old) (count_of count) ≡ false }
         requires near { Near (count_of count) (stored_of self.old) }
         requires limit { count_of count < packet_limit }
-        requires short { length packet.now ≤ 500 }
-        ensures { stored_of self.new ≡ insert (record { count = count_of count; packet = packet.now }) (stored_of self.old) }
+        ensures { stored_of self.new ≡ insert (record { count = count_of count; packet = packet.items }) (stored_of self.old) }
     {
         self.reach(count.value());
         let place = &mut self.places[(count.value() % WINDOW) as usize];
