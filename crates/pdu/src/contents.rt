@@ -8,6 +8,7 @@ ghost use Rattle.protocol.specs.Reading.{decode};
 use crate::differences::Comparison;
 use crate::requests::Request;
 use std::alloc::{AllocError, Global};
+use thiserror::Error;
 use wire::{Amd, Draft, Entry, Fault, Header, Part, Reader, Sn, Status, write_amd};
 
 /// A PDU that was read.
@@ -18,9 +19,11 @@ pub(crate) enum Content<'a> {
 }
 
 /// Why a PDU is not shown, or not written back.
-#[derive(Drop)]
+#[derive(Debug, Drop, Error)]
 pub(crate) enum Failure {
+    #[error("refused by {} ({}) at byte {}: {}", .0.refusal.number(), .0.refusal.layer(), .0.place, .0.refusal)]
     Refused(Fault),
+    #[error("no memory")]
     NoMemory,
 }
 

@@ -1,10 +1,9 @@
 //! What is printed.
 
-use crate::contents::{Content, Failure};
+use crate::contents::Content;
 use crate::differences::{Comparison, Difference};
 use crate::requests::Request;
 use std::fmt;
-use wire::Fault;
 
 /// The most bytes that are shown of a part.
 const SHOWN: usize = 16;
@@ -35,23 +34,6 @@ impl fmt::Display for Request {
         let end = self.end;
         let bytes = Hex(self.bytes.as_slice());
         write!(f, "{end} {bytes}")
-    }
-}
-
-// By hand: thiserror asks for `Debug`, and a Fault of protocol has none.
-impl fmt::Display for Failure {
-    fn fmt<W: fmt::Write>(&self, f: &mut fmt::Formatter<W>) -> fmt::Result {
-        let fault = match self {
-            Failure::Refused(fault) => *fault,
-            Failure::NoMemory => return f.write_str("no memory"),
-        };
-        let Fault { refusal, place } = fault;
-        let number = refusal.number();
-        let layer = refusal.layer();
-        write!(
-            f,
-            "refused by {number} ({layer}) at byte {place}: {refusal}"
-        )
     }
 }
 

@@ -24,8 +24,7 @@ impl From<io::Error> for Failure {
     }
 }
 
-// A refusal by its number, and its place unless that is 0. By hand: thiserror has one text for a variant,
-// and asks for `Debug`, which a Fault of protocol has not.
+// A refusal by its number, and its place unless that is 0. By hand: thiserror has one text for a variant.
 impl fmt::Display for Failure {
     fn fmt<W: fmt::Write>(&self, f: &mut fmt::Formatter<W>) -> fmt::Result {
         match self {

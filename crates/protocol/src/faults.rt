@@ -22,7 +22,7 @@ pub enum Layer {
 }
 
 /// The grounds of a refusal, in the order in which they are checked.
-#[derive(Clone, Copy)]
+#[derive(Clone, Copy, Debug)]
 pub enum Refusal {
     /// The link has failed.
     LinkFailed,
@@ -91,7 +91,7 @@ impl Refusal {
 }
 
 /// A refusal with the place that it is about, a byte's offset in the PDU.
-#[derive(Clone, Copy)]
+#[derive(Clone, Copy, Debug)]
 pub struct Fault {
     pub refusal: Refusal,
     pub place: usize,
