@@ -3,4 +3,3 @@ pub mod Windows
 pub mod Orders
 pub mod Rising
 pub mod Takings
-pub mod Seeking

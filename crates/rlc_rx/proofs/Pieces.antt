@@ -11,7 +11,7 @@ use Rattle.rlc_rx.specs.declared.slots.Slot.{Slot}
 use Rattle.std.specs.Bool.{then_some}
 use Rattle.std.specs.Option.{option_eq}
 use Rattle.rlc_rx.proofs.Merging.{data_outside, data_inside}
-use Rattle.rlc_rx.proofs.Seeking.{seek_past}
+use Rattle.protocol.proofs.Seeks.{seek_past}
 use Rattle.rlc_rx.proofs.Tallies.{holds_is, held_beyond, bounds_end, complete_is, none_higher}
 use Rattle.std.proofs.lemmas.Bool.{both_ways, cases_lt, cases_eq, eq-eqb, ne_eqb, cond-false, ltb-false, le-leb, and_from, or_left, or_right, or_from, or_parts, not-false, cond-true, eqb-true, and_right, le-ltb}
 

@@ -1,7 +1,7 @@
 use Rattle.std.proofs.Common.{◌≡◌, ℕ, Bool, true, false, not, ◌∙◌, rules, tests}
 use Rattle.protocol.specs.Receiving.{nothing_held, complete}
 use Rattle.protocol.specs.Rings.{in_ring}
-use Rattle.rlc_rx.proofs.Seeking.{seek_range_first}
+use Rattle.protocol.proofs.Seeks.{seek_range_first}
 use Rattle.rlc_rx.proofs.rings.incomplete_from.Goals as goal
 use Rattle.rlc_rx.specs.Slots.{partials}
 use Rattle.std.proofs.lemmas.Iterator.{first_from_Range}

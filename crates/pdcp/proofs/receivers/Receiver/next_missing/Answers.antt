@@ -1,6 +1,6 @@
 use Rattle.std.proofs.Common.{◌≡◌, ℕ, ◌-◌, Bool, true, false, not, ap, ◌∙◌, arith, rules, tests}
 use Rattle.pdcp.proofs.Orders.{missing_within}
-use Rattle.pdcp.proofs.Seeking.{seek_range_first}
+use Rattle.protocol.proofs.Seeks.{seek_range_first}
 use Rattle.pdcp.proofs.receivers.Receiver.next_missing.Goals as goal
 use Rattle.pdcp.specs.Stores.{stored_of}
 use Rattle.protocol.specs.Reordering.{is_stored}
