@@ -37,6 +37,7 @@ impl<O: Order> QueueAir<O> {
         }
     }
 
+    // A pair, since the two are shown side by side and nothing else is done with them.
     /// The k-th PDU that waits, counted from 0 at the oldest, and its age.
     pub fn get(&self, k: usize) -> Option<(&[u8], u8)>
         ensures { option_map (λ w. record { pdu = w.0.now; age = w.1 }) result ≡ slice_get (waits self.now.queue) k }

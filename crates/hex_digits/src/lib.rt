@@ -47,6 +47,7 @@ fn byte_of(high: u8, low: u8) -> Option<u8>
     u8::try_from(high * 16 + low).ok()
 }
 
+// Not the kit's `hex`, which tells an odd length before a bad digit.
 /// The bytes of a text of digits, two for each. A bad digit among the pairs is found before an odd length.
 pub fn decode(heap: Global, digits: &[u8]) -> Result<Vec<u8>, BadHex>
     ensures ok { IfOk result (λ v. (2 * vec_len v ≡ length digits.now) × Spelt digits.now v.items) }

@@ -7,6 +7,7 @@ use air::{Air, CAPACITY, Fade, Pipe, Pool};
 use hex_digits::Hex;
 use std::fmt;
 
+// An enum and no `dyn Air`: what waits is not asked of the trait.
 #[derive(Drop)]
 pub(crate) enum Carrier {
     Pipe(Fade<Pipe>),

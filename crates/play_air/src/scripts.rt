@@ -63,6 +63,7 @@ impl FromStr for Kind {
 impl Command {
     /// The command of a line.
     pub(crate) fn parse(heap: Global, line: &str) -> Result<Command, BadLine> {
+        // An absent word is read as an empty one, which is no kind, mask or draw.
         let mut words = line.split_whitespace();
         match (words.next(), words.next(), words.next(), words.next()) {
             (_, _, _, Some(_)) => Err(BadLine::MoreWords),

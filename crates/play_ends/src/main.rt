@@ -32,6 +32,7 @@ enum Side {
 impl Side {
     /// Carries a command out, and prints its answer.
     fn obey(&mut self, rt: &impl Print, command: Command) -> Result<(), Failure> {
+        // A new end first: every other command is for the end that stands then.
         match command {
             Command::Near(settings) => {
                 *self = Side::Near(NearSide::new(settings));

@@ -173,6 +173,7 @@ impl FarEnd {
             return Err(Refusal::ShortBuffer.at(0));
         }
         if !self.reporting.reports() {
+            // The rules' answer where nothing is sent: a length of 0.
             return Ok(0);
         }
         let length = self.write_report(size, buffer)?;

@@ -67,6 +67,7 @@ impl<'a> SduEntries<'a> {
     pub(crate) fn bytes(self) -> usize
         ensures { result ≡ entries_length (entries_left self.entry) }
     {
+        // A `sum` would ask for a bound on how many entries come.
         let mut length = 0;
         for entry in self {
             length += entry.size();

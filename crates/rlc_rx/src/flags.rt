@@ -4,6 +4,7 @@ ghost use Rattle.std.specs.Prelude.{◌≡◌, ◌+◌, ◌-◌, ◌≤◌, leng
 ghost use Rattle.protocol.specs.Searching.{seek};
 ghost use Rattle.rlc_rx.specs.Flags.{NoneFrom, wears, Merged};
 
+// Two numbers and no range: the definition takes a number and a width.
 /// The first place in `from` to before `to` whose flag is `flag`, or else `to`.
 pub(crate) fn find_flag(flags: &[bool], flag: bool, from: usize, to: usize) -> usize
     requires ordered { from ≤ to }

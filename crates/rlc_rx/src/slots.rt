@@ -44,6 +44,7 @@ pub(crate) struct Gap {
     pub(crate) stop: usize,
 }
 
+// An end and whether it is marked stand side by side, as in the definition that this is equal to.
 /// Whether data up to `end` passes the known end, reaches it unmarked, or marks another one.
 fn misfits(known_end: Option<usize>, end: usize, marked: bool) -> bool
     ensures { result ≡ clashes_with known_end end marked }
@@ -109,6 +110,7 @@ impl Slot {
         self.count < self.top
     }
 
+    // Two numbers and no range: the definition takes a number and a width.
     /// The first byte from `from` to before `to` that is missing, or else `to`.
     pub(crate) fn missing_from(&self, from: usize, to: usize) -> usize
         requires ordered { from ≤ to }

@@ -191,6 +191,7 @@ impl Window {
     pub(crate) fn is_settled(&self) -> bool
         ensures { result ≡ (nat_le (count_of self.now.rx_next_status_trigger) (count_of self.now.rx_next) || (count_of self.now.rx_next_status_trigger == count_of self.now.rx_next + 1 && not (has_hole (sdus_of self.now (count_of self.now.rx_next))))) }
     {
+        // By number, since one is added; so below.
         let next = self.rx_next.value();
         let trigger = self.rx_next_status_trigger.value();
         trigger <= next || (trigger == next + 1 && !self.slot(next).has_hole())

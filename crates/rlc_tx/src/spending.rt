@@ -85,6 +85,7 @@ impl NearEnd {
             return Err(Refusal::ShortBuffer.at(0));
         }
         let Some(plan) = self.plan_for(size) else {
+            // The rules' answer where nothing is sent: a length of 0.
             return Ok(0);
         };
         let length = self.write(plan, buffer)?;

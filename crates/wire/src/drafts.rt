@@ -19,6 +19,7 @@ use crate::writing::put_bytes;
 use protocol::{End, Fault, Refusal};
 
 /// A status report that takes entries.
+// A rule of the project: plain numbers, with the buffer lent for each step.
 #[derive(Drop)]
 pub struct Draft {
     /// The bytes that it has so far.

@@ -97,7 +97,8 @@ pub(crate) fn check_entries(bytes: &[u8], ack_sn: Sn, e1: bool) -> Result<(), Fa
     let mut rest = &bytes[3..];
     let mut more = e1;
     let mut invalid = None;
-    // Not over `Entries`: a cut entry, at which those end, is a fault here.
+    // Not over `Entries`, with a flag beside the rest: a cut entry, at which those end, is a fault here, and so are
+    // bytes behind the last one.
     while more {
         let place = size - rest.len();
         let Some(found) = find_entry(rest) else {

@@ -32,6 +32,7 @@ fn find_segment(bytes: &[u8]) -> Result<Segment, Fault>
     if size <= 2 {
         return Err(Refusal::Malformed.at(size));
     }
+    // SI and SO make the segment together, so no conversion of SI alone does.
     let si = bytes[0] / 16 % 4;
     if si >= 2 && size <= 4 {
         return Err(Refusal::Malformed.at(size));
