@@ -1,7 +1,7 @@
 -- Bytes that are read from digits, one by one.
-use Rattle.std.proofs.Common.{◌≡◌, ℕ, ◌+◌, ◌*◌, ◌<◌, List, [], ◌∷◌, ◌++◌, length, get_or, drop, sym, ◌∙◌, ap, subst, below_more, length-append, length-drop, arith, rules, slice_index}
-use Rattle.std.proofs.lemmas.List.{length_push, get_or_push, get_or_append_left, get_or-drop}
-use Rattle.hex_digits.specs.Digits.{Byte, Spelt, Stops}
+use Rattle.std.proofs.Common.{◌≡◌, ℕ, ◌+◌, ◌*◌, ◌/◌, ◌%◌, ◌<◌, List, [], ◌∷◌, ◌++◌, length, get_or, set, take, drop, sym, ◌∙◌, ap, subst, below_more, length-append, length-drop, length-set, arith, rules, slice_index}
+use Rattle.std.proofs.lemmas.List.{append_assoc, flat_map_more, length_push, get_or_push, get_or_append_left, get_or-drop, take_more, take_more_set}
+use Rattle.hex_digits.specs.Digits.{Byte, Spelt, Stops, digit_of, digits_of, text_of}
 
 -- the two digits that stand before the rest
 pub digit_ahead : (digits pair rest : List ℕ) (n : ℕ) → drop n digits ≡ pair ++ rest → length pair ≡ 2 → (j : ℕ) → j < 2 → slice_index pair j ≡ slice_index digits (n + j)
@@ -32,3 +32,16 @@ stops_here digits old pair rest ahead two none spelt = (
   where
     digit : (j : ℕ) → j < 2 → slice_index pair j ≡ slice_index digits (2 * length old + j)
     digit = digit_ahead digits pair rest (2 * length old) ahead two
+
+-- Digits that are written from bytes, one by one.
+pub spelt_on : (digits bytes : List ℕ) (i : ℕ) → 2 * i + 1 < length digits → i < length bytes → take (2 * i) digits ≡ text_of (take i bytes)
+    → take (2 * (i + 1)) (set (set digits (2 * i) (digit_of (get_or bytes i 0 / 16))) (2 * i + 1) (digit_of (get_or bytes i 0 % 16))) ≡ text_of (take (i + 1) bytes)
+spelt_on digits bytes i room inside so_far =
+    let a = digit_of (get_or bytes i 0 / 16) in
+    let b = digit_of (get_or bytes i 0 % 16) in
+    let two : 2 * (i + 1) ≡ 2 * i + 1 + 1 = omega arith in
+    ap (λ n. take n (set (set digits (2 * i) a) (2 * i + 1) b)) two
+    ∙ take_more_set (set digits (2 * i) a) (2 * i + 1) b (omega (arith, room, length-set digits (2 * i) a))
+    ∙ ap (λ xs. xs ++ b ∷ []) (take_more_set digits (2 * i) a (omega (arith, room)) ∙ ap (λ xs. xs ++ a ∷ []) so_far)
+    ∙ append_assoc (text_of (take i bytes)) (a ∷ []) (b ∷ [])
+    ∙ flat_map_more digits_of [] (take i bytes) (get_or bytes i 0) ∙ ap text_of (sym (take_more bytes i 0 inside))

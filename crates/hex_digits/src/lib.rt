@@ -2,10 +2,9 @@
 
 #![tactic(auto)]
 
-ghost use Rattle.std.specs.Prelude.{◌≡◌, ℕ, ◌+◌, ◌*◌, ◌<◌, length, Some, IfSome, IfOk, IsErrOf, List, vec_len, MatchOption};
-ghost use Rattle.hex_digits.specs.Digits.{Digit, Byte, Spelt, Stops, digits_of, text_of};
+ghost use Rattle.std.specs.Prelude.{◌≡◌, ℕ, ◌+◌, ◌*◌, ◌<◌, ◌≤◌, length, take, Some, IfSome, IfOk, IsErrOf, List, vec_len, MatchOption};
+ghost use Rattle.hex_digits.specs.Digits.{Digit, Byte, Spelt, Stops, digit_of, text_of};
 ghost use Rattle.hex_digits.specs.declared.BadHex.TheVariants.{NoMemory};
-ghost use Rattle.std.specs.Fmt.{WritesOnOk};
 
 use std::alloc::{AllocError, AllocFailed, Global};
 use std::fmt;
@@ -64,10 +63,34 @@ pub fn decode(heap: Global, digits: &[u8]) -> Result<Vec<u8>, BadHex>
     Ok(bytes)
 }
 
-fn write_byte<W: fmt::Write>(byte: u8, f: &mut fmt::Formatter<W>) -> fmt::Result
-    ensures { WritesOnOk W.write_str_gives f.old result (digits_of byte) f.new }
+/// The digit of a value, the letters in lower case.
+fn digit(value: u8) -> u8
+    requires { value < 16 }
+    ensures { result ≡ digit_of value }
 {
-    write!(f, "{byte:02x}")
+    if value < 10 {
+        b'0' + value
+    } else {
+        b'a' + (value - 10)
+    }
+}
+
+/// How many bytes are spelt before they are written, and how many digits they have.
+const PIECE: usize = 32;
+
+const DIGITS: usize = 64;
+
+/// The digits of at most 32 bytes, two for each, at the answer's start.
+fn spell(bytes: &[u8]) -> [u8; DIGITS]
+    requires { length bytes.now ≤ 32 }
+    ensures { take (2 * length bytes.now) result ≡ text_of bytes.now }
+{
+    let mut digits = [0; DIGITS];
+    for (i, byte) in bytes.iter().enumerate() {
+        digits[2 * i] = digit(*byte / 16);
+        digits[2 * i + 1] = digit(*byte % 16);
+    }
+    digits
 }
 
 /// Bytes that print as two digits each, the letters in lower case.
@@ -78,8 +101,12 @@ impl fmt::Display for Hex<'_> {
     ghost output = { λ hex. Some (text_of hex.0.now) };
 
     fn fmt<W: fmt::Write>(&self, f: &mut fmt::Formatter<W>) -> fmt::Result {
-        for byte in self.0 {
-            write_byte(*byte, f)?;
+        // By pieces: `{:02x}` of each byte goes through the padding of numbers, which takes several times as long.
+        for bytes in self.0.chunks(PIECE) {
+            let digits = spell(bytes);
+            // Digits are UTF-8, so this error never comes.
+            let text = str::from_utf8(&digits[..2 * bytes.len()]).map_err(|_| fmt::Error)?;
+            f.write_str(text)?;
         }
         Ok(())
     }

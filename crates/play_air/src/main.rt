@@ -13,12 +13,12 @@ use hex_digits::Hex;
 use scripts::{Command, Kind};
 use std::io;
 
-/// Makes a Take, and prints what it lets out.
+/// Makes a Take, and prints what it lets out and what then waits, as one text: a print is a write of its own.
 fn take(rt: &impl Print, carrier: &mut Carrier, draw: u16) -> io::Result<()> {
     let mut buffer = [0; MAX_PDU];
     match carrier.take(draw, &mut buffer) {
-        Some(length) => println!(rt; "  out: {}", Hex(&buffer[..length])),
-        None => println!(rt; "  out: none"),
+        Some(length) => println!(rt; "  out: {}\n  {carrier}", Hex(&buffer[..length])),
+        None => println!(rt; "  out: none\n  {carrier}"),
     }
 }
 
@@ -28,7 +28,7 @@ fn obey(rt: &impl Print, carrier: &mut Carrier, command: Command) -> io::Result<
         Command::Start { kind, mask } => *carrier = Carrier::new(kind, mask),
         Command::Put(pdu) => carrier.put(pdu.as_slice()),
         Command::Skip => carrier.skip(),
-        Command::Take(draw) => take(rt, carrier, draw)?,
+        Command::Take(draw) => return take(rt, carrier, draw),
     }
     println!(rt; "  {carrier}")
 }

@@ -1,8 +1,10 @@
-use Rattle.std.proofs.Common.{take}
+use Rattle.std.proofs.Common.{◌≡◌, ℕ, List, ◌++◌}
 use Rattle.std.specs.Fmt.{HasWritten, IsPlainFormatter}
 use Rattle.hex_digits.proofs.HexDisplay.fmt.Given as goal
 use Rattle.hex_digits.specs.Digits.{text_of}
 
-abbrev pub invariant-loop-byte : goal.invariant-loop-byte
-invariant-loop-byte g l =
-    IsPlainFormatter l.initial.f → HasWritten g.W.Write.write_str_gives l.initial.f (text_of (take l.byte-index l.byte-items)) l.f
+-- What came before the rest was written.
+abbrev pub invariant-loop-bytes : goal.invariant-loop-bytes
+invariant-loop-bytes g l =
+    (l.bytes-iterator.size ≡ 32) × (done : List ℕ) × (l.initial.self.0.now ≡ done ++ l.bytes-iterator.rest.now)
+    × (IsPlainFormatter l.initial.f → HasWritten g.W.Write.write_str_gives l.initial.f (text_of done) l.f)

@@ -1,8 +1,0 @@
-use Rattle.std.proofs.Common.{false, rules}
-use Rattle.std.proofs.Output.{has_written_of_eq}
-use Rattle.std.proofs.lemmas.Fmt.{hex_byte}
-use Rattle.hex_digits.proofs.write_byte.Goals as goal
-
-pub returns : goal.returns
-returns g c = λ plain ok.
-    has_written_of_eq _ _ _ _ _ (hex_byte false c.args.byte c.ranges.byte.fits) (search rules)
