@@ -1,18 +1,71 @@
 -- What pipe and pool let out and leave, and that every air may.
 use Rattle.std.specs.Prelude.{◌≡◌, ℕ, zero, suc, ◌-◌, ◌<◌, ◌≤◌, Bool, true, false, cond, List, [], ◌∷◌, length, IfSome, Some, None, MatchBool, Option, nat_le, refl}
-use Rattle.std.proofs.Common.{sym, subst, arith}
+use Rattle.std.proofs.Common.{sym, ◌∙◌, ap, subst, arith}
 use Rattle.air.specs.Kept.{pdu_at, left_by, out_at, put_in, Took}
 use Rattle.air.specs.Meaning.{Sound, Answers}
 use Rattle.air.specs.Queues.{capacity}
 use Rattle.protocol.proofs.Strikes.{within_all, within_none, within_removed, within_drop, all_within}
-use Rattle.protocol.specs.Airs.{Waiting, Within, kept, struck, max_pdu, max_draw, age_limit, carries, LetsOut, Takes, takes, aged, after_put}
-use Rattle.protocol.specs.Bytes.{Bytes}
-use Rattle.std.proofs.lemmas.Bool.{leb-true, and_parts}
+use Rattle.protocol.specs.Airs.{Waiting, Within, kept, struck, max_pdu, max_draw, age_limit, carries, LetsOut, Takes, takes, laid, aged, after_put}
+use Rattle.protocol.specs.Bytes.{Bytes, put}
+use Rattle.std.proofs.lemmas.Bool.{cond-true, leb-true, and_parts}
 use Rattle.std.specs.Option.{option_map}
-use Rattle.std.specs.List.{slice_get}
+use Rattle.std.specs.List.{remove, AllByRecursion, slice_get}
+
+-- the k-th ---------------------------------------------------------------------------------------------------------
 
 none_some : {X : Type 0} {x : X} → ◌≡◌ {A = Option X} None (Some x) → ⊥
 none_some e = let z : ◌≡◌ {A = ℕ} 0 1 = cc in omega arith
+
+pub nth_within : {X : Type 0} (xs : List X) (k : ℕ) (x : X) → slice_get xs k ≡ Some x → k < length xs
+nth_within [] k x e = absurd (none_some e)
+nth_within (y ∷ xs) zero x e = omega arith
+nth_within (y ∷ xs) (suc k) x e = omega (arith, nth_within xs k x e)
+
+pub all_nth : {X : Type 0} (P : X → Type 0) (xs : List X) (k : ℕ) (x : X) → slice_get xs k ≡ Some x → AllByRecursion P xs → P x
+all_nth P [] k x e all = absurd (none_some e)
+all_nth P (y ∷ xs) zero x e all = let same : y ≡ x = cc in subst P same all.0
+all_nth P (y ∷ xs) (suc k) x e all = all_nth P xs k x e all.1
+
+removed_past : {X : Type 0} (xs : List X) (k : ℕ) → slice_get xs k ≡ None → remove xs k ≡ xs
+removed_past [] zero e = refl
+removed_past [] (suc k) e = refl
+removed_past (x ∷ xs) zero e = absurd (none_some (sym e))
+removed_past (x ∷ xs) (suc k) e = ap (λ ys. x ∷ ys) (removed_past xs k e)
+
+nothing_left_by : (k : ℕ) (keeps : Bool) (ws : List Waiting) → slice_get ws k ≡ None → left_by k keeps ws ≡ ws
+nothing_left_by k true ws e = refl
+nothing_left_by k false ws e = removed_past ws k e
+
+-- a Take where there is no k-th, and one of the k-th
+pub took_none : (k : ℕ) (keeps : Bool) (draw : ℕ) (buffer : Bytes) (ws : List Waiting) → slice_get ws k ≡ None → Took k keeps draw buffer None buffer ws ws
+took_none k keeps draw buffer ws none = record {
+  answers = sym (ap (option_map length) out);
+  writes = sym (ap (λ o. laid o buffer) out);
+  leaves = sym (left (takes draw buffer));
+}
+  where
+    empty : (ready : Bool) → cond ready (pdu_at k ws) None ≡ None
+    empty true = ap (option_map (λ w. w.pdu)) none
+    empty false = refl
+
+    out : out_at k draw buffer ws ≡ None
+    out = empty (takes draw buffer)
+
+    left : (ready : Bool) → cond ready (left_by k keeps ws) ws ≡ ws
+    left true = nothing_left_by k keeps ws none
+    left false = refl
+
+pub took_some : (k : ℕ) (keeps : Bool) (draw : ℕ) (buffer written : Bytes) (ws after : List Waiting) (w : Waiting) → takes draw buffer ≡ true → slice_get ws k ≡ Some w
+    → written ≡ put w.pdu buffer → after ≡ left_by k keeps ws → Took k keeps draw buffer (Some (length w.pdu)) written ws after
+took_some k keeps draw buffer written ws after w ready some writes leaves =
+    let out : out_at k draw buffer ws ≡ Some w.pdu = cond-true (takes draw buffer) (pdu_at k ws) None ready ∙ ap (option_map (λ w. w.pdu)) some in
+    record {
+      answers = sym (ap (option_map length) out);
+      writes = writes ∙ sym (ap (λ o. laid o buffer) out);
+      leaves = leaves ∙ sym (cond-true (takes draw buffer) (left_by k keeps ws) ws ready);
+    }
+
+-- every air may do so ----------------------------------------------------------------------------------------------
 
 pub within_put : (pdu : Bytes) (ws after : List Waiting) → after ≡ put_in pdu ws → Within after (after_put pdu ws)
 within_put pdu ws after e = subst (λ vs. Within vs (after_put pdu ws)) (sym e) (within_drop (length (after_put pdu ws) - capacity) (after_put pdu ws))

@@ -1,3 +1,5 @@
-pub mod Ages
 pub mod Emptied
+pub mod Notes
+pub mod Fronts
+pub mod Pushes
 pub mod Lets

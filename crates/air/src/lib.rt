@@ -6,6 +6,7 @@
 #![tactic(auto)]
 
 mod airs;
+mod entries;
 mod fades;
 mod orders;
 mod queue_airs;

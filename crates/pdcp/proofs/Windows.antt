@@ -1,6 +1,6 @@
 -- A ring of places as a function of COUNTs, and the window that it shows.
 use Rattle.std.proofs.Common.{◌≡◌, ℕ, ◌+◌, ◌-◌, ◌*◌, ◌%◌, ◌<◌, ◌≤◌, Bool, true, false, cond, ◌&&◌, eqb, ltb, leb, find, count_by, List, [], ◌++◌, map, length, get_or, set, is_some, Some, None, Option, sym, refl, ap, ◌∙◌, ⊎_elim, arith}
-use Rattle.pdcp.proofs.Listings.{stored_found, listed_same, listed_none, listed_split, found_outside, found_at, listed_insert, listed_without, lowest_listed, due_listed}
+use Rattle.pdcp.proofs.Listings.{stored_found, listed_same, listed_none, listed_split, found_outside, found_at, listed_insert, listed_without, lowest_listed, due_listed, due_none}
 use Rattle.pdcp.specs.Places.{has_place, packet_in, under, listed, copied_out}
 use Rattle.pdcp.specs.Stores.{held_in, Near, found, taken, taken_if, without, lowest_of}
 use Rattle.pdcp.specs.declared.places.Place.{Place}
@@ -161,6 +161,11 @@ pub due_held : (places : List Place) (first deliv : ℕ)
     → count_by (λ c. ltb c deliv && is_some (under places c)) (range_with_len first 16) ≡ length (due_of deliv (held_in places first))
 unfolding held_in
 due_held places first deliv = due_listed (under places) deliv 16 first
+
+-- nothing stands before the window
+pub none_before : (places : List Place) (first deliv : ℕ) → deliv ≤ first → due_of deliv (held_in places first) ≡ []
+unfolding held_in
+none_before places first deliv before = due_none (under places) deliv 16 first before
 
 -- a ring of empty places holds nothing
 pub none_held : (places : List Place) (past : Place) → length places ≡ 16 → ((i : ℕ) → i < 16 → packet_in (get_or places i past) ≡ None)

@@ -1,5 +1,5 @@
 -- What a place holds, and the list of what a ring of places holds.
-use Rattle.std.specs.Prelude.{ℕ, zero, suc, ◌+◌, Bool, cond, ◌&&◌, List, [], ◌∷◌, map, length, Some, None, Option, nat_le, nat_lt}
+use Rattle.std.specs.Prelude.{ℕ, zero, suc, ◌+◌, Bool, cond, ◌&&◌, List, [], ◌∷◌, map, length, take, Some, None, Option, nat_le, nat_lt}
 use Rattle.pdcp.specs.declared.places.Place.{Place}
 use Rattle.protocol.specs.Bytes.{Bytes, put}
 use Rattle.protocol.specs.Reordering.{Stored}
@@ -9,7 +9,7 @@ use Rattle.std.specs.Option.{option_map}
 
 -- the packet in a place, if any
 abbrev pub packet_in : Place → Option Bytes
-packet_in place = option_map (λ p. p.items) place.packet
+packet_in place = option_map (λ n. take n place.bytes) place.size
 
 -- What taking a packet out answers, leaves in the buffer and leaves in the place. It stays if the buffer is too short.
 abbrev pub copied_out : Option Bytes → Bytes → Option ℕ × Bytes × Option Bytes

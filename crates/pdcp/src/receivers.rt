@@ -63,9 +63,9 @@ impl Receiver {
     }
 
     /// Refuses a COUNT out of range, discards one below RX_DELIV or stored, and takes any other packet.
-    fn take_counted(&mut self, count: Option<PdcpCount>, packet: Packet) -> Result<(), Fault>
+    fn take_counted(&mut self, count: Option<PdcpCount>, packet: &Packet) -> Result<(), Fault>
         requires { due (pdcp_of self.old) ≡ [] }
-        ensures { (result, state_of self.new) ≡ answered (counted (settings_of self.old.settings) (option_map count_of count) packet.items (pdcp_of self.old)) (state_of self.old) }
+        ensures { (result, state_of self.new) ≡ answered (counted (settings_of self.old.settings) (option_map count_of count) packet.now.bytes.now (pdcp_of self.old)) (state_of self.old) }
     {
         let count = count.ok_or(Refusal::CountRange.at(0))?;
         if count.value() >= self.rx_deliv.value() + WINDOW || count.value() >= PACKET_LIMIT {
@@ -90,8 +90,10 @@ impl Receiver {
         }
         let pdu = read_data(sdu)?;
         let count = pdu.sn.pdcp_count(self.rx_deliv);
-        let packet = Packet::try_from(pdu.packet.bytes).unwrap();
-        self.take_counted(count, packet)
+        let packet = Packet {
+            bytes: pdu.packet.bytes,
+        };
+        self.take_counted(count, &packet)
     }
 
     /// One Tick: when t-Reordering runs out, the COUNTs below RX_REORD that are missing are given up.
@@ -149,9 +151,9 @@ impl Receiver {
     }
 
     /// Stores a packet; RX_NEXT moves past it.
-    fn keep(&mut self, count: PdcpCount, packet: Packet)
+    fn keep(&mut self, count: PdcpCount, packet: &Packet)
         requires { Awaited (count_of count) (pdcp_of self.old) }
-        ensures { state_of self.new ≡ after (λ _. storing (count_of count) packet.items) (state_of self.old) }
+        ensures { state_of self.new ≡ after (λ _. storing (count_of count) packet.now.bytes.now) (state_of self.old) }
     {
         self.store.insert(count, packet);
         if self.rx_next <= count {
@@ -160,9 +162,9 @@ impl Receiver {
     }
 
     /// Takes a packet that is not discarded.
-    fn accept(&mut self, count: PdcpCount, packet: Packet)
+    fn accept(&mut self, count: PdcpCount, packet: &Packet)
         requires { Awaited (count_of count) (pdcp_of self.old) }
-        ensures { state_of self.new ≡ after (λ s. accepted s (count_of count) packet.items) (state_of self.old) }
+        ensures { state_of self.new ≡ after (λ s. accepted s (count_of count) packet.now.bytes.now) (state_of self.old) }
     {
         self.keep(count, packet);
         let deliv = if count == self.rx_deliv {

@@ -32,7 +32,7 @@ impl Store {
         ensures { stored_of result ≡ [] }
     {
         Store {
-            places: Default::default(),
+            places: [Place::empty(); WINDOW_SIZE],
             first: 0,
         }
     }
@@ -73,15 +73,15 @@ impl Store {
     }
 
     /// Stores a packet under a COUNT that is less than 16 away from every stored one.
-    pub(crate) fn insert(&mut self, count: PdcpCount, packet: Packet)
+    pub(crate) fn insert(&mut self, count: PdcpCount, packet: &Packet)
         requires new { is_stored (stored_of self.old) (count_of count) ≡ false }
         requires near { Near (count_of count) (stored_of self.old) }
         requires limit { count_of count < packet_limit }
-        ensures { stored_of self.new ≡ insert (record { count = count_of count; packet = packet.items }) (stored_of self.old) }
+        ensures { stored_of self.new ≡ insert (record { count = count_of count; packet = packet.now.bytes.now }) (stored_of self.old) }
     {
         self.reach(count.value());
-        let place = &mut self.places[(count.value() % WINDOW) as usize];
-        place.fill(packet);
+        let places = &mut self.places;
+        places[(count.value() % WINDOW) as usize].fill(packet);
     }
 
     /// The lowest COUNT of the window at whose place a packet stands.
@@ -104,6 +104,10 @@ impl Store {
         ensures { result ≡ length (due_of (count_of count) (stored_of self.now)) }
     {
         let end = count.value();
+        // Before the window nothing is stored, so nothing is looked at.
+        if end <= self.first {
+            return 0;
+        }
         self.full_below(end)
     }
 
@@ -124,7 +128,7 @@ impl Store {
         if !self.reaches(count.value()) {
             return None;
         }
-        let place = &mut self.places[(count.value() % WINDOW) as usize];
-        place.copy_out(buffer)
+        let places = &mut self.places;
+        places[(count.value() % WINDOW) as usize].copy_out(buffer)
     }
 }
