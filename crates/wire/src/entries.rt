@@ -3,7 +3,8 @@
 ghost use Rattle.std.specs.Prelude.{◌≡◌, ◌≤◌, not, ◌&&◌, length, drop, IfSome};
 ghost use Rattle.protocol.specs.Reading.{in_order as ordered, valid};
 ghost use Rattle.std.specs.Iterator.{YieldsFirstBy, item_count};
-ghost use Rattle.std.specs.Option.{option_map};
+ghost use Rattle.std.specs.Bool.{then_some};
+ghost use Rattle.std.specs.Option.{option_map, option_or};
 ghost use Rattle.wire.specs.Counts.{sn_of};
 ghost use Rattle.wire.specs.Views.{missing_of, entry_of, found_of, found_at, checked_entries};
 
@@ -88,6 +89,17 @@ fn is_valid(ack_sn: Sn, entry: Entry, e3: bool) -> bool
     !e3 && 1 <= behind && behind <= 2048 && in_order(entry.missing)
 }
 
+/// The place of the first invalid entry, once the entry at `place` was looked at.
+// No `or` of two places: what it makes at each entry doubles the time of a long report.
+fn first_invalid(invalid: Option<usize>, fine: bool, place: usize) -> Option<usize>
+    ensures { result ≡ option_or invalid (then_some (not fine) place) }
+{
+    match invalid {
+        None if !fine => Some(place),
+        _ => invalid,
+    }
+}
+
 /// Looks at all entries: first whether the PDU ends with the last of them, then for the first invalid one.
 pub(crate) fn check_entries(bytes: &[u8], ack_sn: Sn, e1: bool) -> Result<(), Fault>
     requires { 3 ≤ length bytes.now }
@@ -110,7 +122,7 @@ pub(crate) fn check_entries(bytes: &[u8], ack_sn: Sn, e1: bool) -> Result<(), Fa
             e1: follows,
             e3,
         } = found;
-        invalid = invalid.or((!is_valid(ack_sn, entry, e3)).then_some(place));
+        invalid = first_invalid(invalid, is_valid(ack_sn, entry, e3), place);
         rest = &rest[length..];
         more = follows;
     }

@@ -16,6 +16,6 @@ loop-more-preserved c =
     let ack = sn_of c.args.ack_sn in
     let seen = subst (λ more. Walked ack c.args.e1 (drop 3 pdu) (length pdu) more rest c.loop-more.invalid) c.loop-more-test.true c.loop-more.invariant in
     let on = walked_on ack c.args.e1 (drop 3 pdu) (length pdu) rest c.loop-more.invalid found seen (sym c.in-Some.ensures.value) in
-    let same = c.or-invalid.ensures ∙ ap (λ p. option_or c.loop-more.invalid p) (c.then_some.ensures ∙ ap (λ fine. then_some (not fine) (length pdu - length rest)) c.is_valid.ensures) in
-    subst (λ left. Walked ack c.args.e1 (drop 3 pdu) (length pdu) found.e1 left c.or-invalid.result) (sym (take_rest rest found.size))
+    let same = c.first_invalid-invalid.ensures ∙ ap (λ fine. option_or c.loop-more.invalid (then_some (not fine) (length pdu - length rest))) c.is_valid.ensures in
+    subst (λ left. Walked ack c.args.e1 (drop 3 pdu) (length pdu) found.e1 left c.first_invalid-invalid.result) (sym (take_rest rest found.size))
     (subst (λ invalid. Walked ack c.args.e1 (drop 3 pdu) (length pdu) found.e1 (drop found.size rest) invalid) (sym same) on)
