@@ -52,5 +52,5 @@ over n polling failed m =
     }
 
 -- it fails as the rules say
-pub failed_as : (e : NearEnd) (w : Window) (n : near.Near) (failed : Bool) → bare w ≡ n → failed ≡ exhausted_in e.settings.max_retx w → (e.failed || failed) ≡ (e.failed || near.fails (set_by e) n)
-failed_as e w n failed same is = ap (λ b. e.failed || b) (is ∙ sym (fails_is (set_by e) (bare w) (bare_ordered w)) ∙ ap (near.fails (set_by e)) same)
+pub failed_as : (e : NearEnd) (w : Window) (n : near.Near) (failed : Bool) → bare w ≡ n → failed ≡ (e.failed || exhausted_in e.settings.max_retx w) → failed ≡ (e.failed || near.fails (set_by e) n)
+failed_as e w n failed same is = is ∙ ap (λ b. e.failed || b) (sym (fails_is (set_by e) (bare w) (bare_ordered w)) ∙ ap (near.fails (set_by e)) same)

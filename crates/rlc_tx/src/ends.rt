@@ -102,7 +102,7 @@ impl NearEnd {
         ensures { state_of self.new ≡ after (λ s n. failed_if s (considered_all (highest_sent n) n)) (state_of self.old) }
     {
         self.window.repeat_highest();
-        self.failed |= self.window.is_exhausted(self.settings.max_retx);
+        self.failed = self.window.has_failed(self.failed, self.settings.max_retx);
     }
 
     /// One Tick: when t-PollRetransmit runs out a poll is owed, and something to send it with.

@@ -132,7 +132,7 @@ impl NearEnd {
         ensures { state_of self.new ≡ after (λ s. reported s (count_of ack) (entries_of entries.entry)) (state_of self.old) }
     {
         let touches = self.window.consider_entries(entries);
-        self.failed |= self.window.is_exhausted(self.settings.max_retx);
+        self.failed = self.window.has_failed(self.failed, self.settings.max_retx);
         self.window.acknowledge_all(ack, &touches);
         self.window.advance();
         self.polling.note_report(ack);

@@ -1,6 +1,6 @@
 //! The window of the transmitting side, with its SDUs.
 
-ghost use Rattle.std.specs.Prelude.{◌≡◌, ℕ, ◌+◌, ◌-◌, ◌%◌, ◌<◌, ◌≤◌, true, false, length, is_some, nat_le};
+ghost use Rattle.std.specs.Prelude.{◌≡◌, ℕ, ◌+◌, ◌-◌, ◌%◌, ◌<◌, ◌≤◌, true, false, ◌||◌, length, is_some, nat_le};
 ghost use Rattle.protocol.specs.Searching.{update};
 ghost use Rattle.protocol.specs.Sending.{window_size, new_near, advanced, acknowledge as acknowledged, considered_all, exhausted, highest_sent, marked, names_byte, top as top_of};
 ghost use Rattle.rlc_tx.specs.Considered.{considered_next, counted_by};
@@ -120,10 +120,17 @@ impl Window {
     }
 
     /// The RETX_COUNT of one of its SDUs has reached maxRetx.
-    pub(crate) fn is_exhausted(&self, max_retx: u8) -> bool
+    fn is_exhausted(&self, max_retx: u8) -> bool
         ensures { result ≡ exhausted_in max_retx self.now }
     {
         self.first(|_, slot| slot.is_exhausted(max_retx)).is_some()
+    }
+
+    /// Whether the link has failed: it had before, or RETX_COUNT has now reached maxRetx.
+    pub(crate) fn has_failed(&self, failed: bool, max_retx: u8) -> bool
+        ensures { result ≡ (failed || exhausted_in max_retx self.now) }
+    {
+        failed || self.is_exhausted(max_retx)
     }
 
     /// One SDU more.

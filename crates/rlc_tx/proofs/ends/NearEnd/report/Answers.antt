@@ -1,4 +1,4 @@
-use Rattle.std.proofs.Common.{ℕ, ◌||◌, sym, ap, ◌∙◌}
+use Rattle.std.proofs.Common.{ℕ, sym, ap, ◌∙◌}
 use Rattle.protocol.specs.Sending.{Near, with_sdus, considered_in}
 use Rattle.rlc_tx.proofs.Failing.{over, failed_as, still_untired}
 use Rattle.rlc_tx.proofs.Reported.{window_after, untired_after}
@@ -21,7 +21,7 @@ invariant_of-self c =
       together = n.together ∙ sym (ap next c.advance.ensures ∙ ap next c.acknowledge_all.ensures ∙ ap next considered.ensures.sdus);
       untired = λ alive.
           untired_after n.window considered.new.self c.acknowledge_all.new.self c.advance.new.self considered.result (count_of c.args.ack) es considered.ensures.sdus c.acknowledge_all.ensures c.advance.ensures _
-          (still_untired n.failed _ considered.new.self (ap (λ b. n.failed || b) (sym c.is_exhausted.ensures) ∙ alive));
+          (still_untired n.failed _ considered.new.self (sym c.has_failed-self.ensures ∙ alive));
     }
 
 pub returns : goal.returns
@@ -32,7 +32,7 @@ returns c =
     let ack = count_of c.args.ack in
     let after =
     window_after n.window considered.new.self c.acknowledge_all.new.self c.advance.new.self considered.result ack es considered.ensures.sdus c.acknowledge_all.ensures c.advance.ensures c.requires considered.ensures.named in
-    let failed = failed_as n considered.new.self (with_sdus (bare n.window) (considered_in (bare n.window) es)) c.is_exhausted.result considered.ensures.sdus c.is_exhausted.ensures in
+    let failed = failed_as n considered.new.self (with_sdus (bare n.window) (considered_in (bare n.window) es)) c.has_failed-self.result considered.ensures.sdus c.has_failed-self.ensures in
     λ i. (
       set_by n,
       over (near_of n)
