@@ -16,11 +16,6 @@ use Rattle.std.specs.List.{remove, AllByRecursion, slice_get}
 none_some : {X : Type 0} {x : X} → ◌≡◌ {A = Option X} None (Some x) → ⊥
 none_some e = let z : ◌≡◌ {A = ℕ} 0 1 = cc in omega arith
 
-pub nth_within : {X : Type 0} (xs : List X) (k : ℕ) (x : X) → slice_get xs k ≡ Some x → k < length xs
-nth_within [] k x e = absurd (none_some e)
-nth_within (y ∷ xs) zero x e = omega arith
-nth_within (y ∷ xs) (suc k) x e = omega (arith, nth_within xs k x e)
-
 pub all_nth : {X : Type 0} (P : X → Type 0) (xs : List X) (k : ℕ) (x : X) → slice_get xs k ≡ Some x → AllByRecursion P xs → P x
 all_nth P [] k x e all = absurd (none_some e)
 all_nth P (y ∷ xs) zero x e all = let same : y ≡ x = cc in subst P same all.0

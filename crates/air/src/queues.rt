@@ -12,7 +12,7 @@ use crate::entries::Entry;
 pub const CAPACITY: usize = 8;
 
 /// Up to 8 PDUs, oldest first. A PDU stays where it stands in the store; only its entry moves.
-// No vector of PDUs: up to 7 of them would move at each Put and Take, which then take five to seven times as long.
+// No vector of PDUs: up to 7 of them would move as one leaves, and a Put or Take took five to seven times as long.
 #[derive(Drop)]
 pub struct Queue {
     store: [[u8; MAX_PDU]; CAPACITY],

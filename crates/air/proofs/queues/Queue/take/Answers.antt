@@ -1,7 +1,8 @@
 use Rattle.std.proofs.Common.{◌≡◌, ◌<◌, true, leb, length, sym, ◌∙◌, arith}
 use Rattle.air.proofs.Fronts.{length_waits}
 use Rattle.air.specs.Soundness.{sound_waits}
-use Rattle.air.proofs.Lets.{nth_within, all_nth, took_none, took_some}
+use Rattle.air.proofs.Lets.{all_nth, took_none, took_some}
+use Rattle.std.proofs.lemmas.Option.{slice_get_within}
 use Rattle.air.proofs.queues.Queue.take.Goals as goal
 use Rattle.air.specs.Kept.{left_by}
 use Rattle.air.specs.Waits.{waits}
@@ -29,7 +30,7 @@ pub remove-requires : goal.remove-requires
 remove-requires c =
     let q = c.args.self.now in
     let w : Waiting = record { pdu = c.in-Some.pdu.now; age = c.in-Some.field-0-1 } in
-    omega (arith, nth_within (waits q) c.args.k w (sym c.in-Some.ensures), length_waits q)
+    omega (arith, slice_get_within (waits q) c.args.k w (sym c.in-Some.ensures), length_waits q)
 
 pub returns-then-not-keeps : goal.returns-then-not-keeps
 returns-then-not-keeps c =
